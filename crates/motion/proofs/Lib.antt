@@ -1,0 +1,6 @@
+-- Laws that several proofs and other crates cite.
+pub mod Bias
+pub mod Words
+pub mod RateLaws
+pub mod RangeLaws
+pub mod AxisLaws

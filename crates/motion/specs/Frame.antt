@@ -1,0 +1,25 @@
+-- Which frames, levels and blocks there are.
+use mathlib.Core.Path.{_≡_}
+use Prim.Native.Nat.{ℕ, _*_, _/_, _%_, _≤_, _<_}
+use Rattle.motion.specs.Limits.{sideStep, largestSide, cellSide}
+use Rattle.motion.specs.Level.{level4, level3, level2}
+use Rattle.motion.specs.declared.level.Level.{Level}
+
+-- width and height: multiples of 8, from 8 to 1,024
+pub record Side (n : ℕ) : Type 0 where
+  pub whole : n % sideStep ≡ 0
+  pub least : sideStep ≤ n
+  pub most : n ≤ largestSide
+
+-- a block's start on one axis: the cell inside the frame, and 4·b a multiple of the block size
+pub record Starts (side size b : ℕ) : Type 0 where
+  pub inside : b < side / cellSide
+  pub aligned : (cellSide * b) % size ≡ 0
+
+-- the block sizes of the table: a level's own, and the refined ones of levels 3 and 2
+pub data Sized : Level → ℕ → Type 0 where
+  own4 : Sized level4 64
+  own3 : Sized level3 32
+  own2 : Sized level2 16
+  refined3 : Sized level3 64
+  refined2 : Sized level2 32

@@ -1,0 +1,108 @@
+-- The pads are enough: for every size, level and block, the block and each reference block of a vector in range lie inside
+-- stride times rows samples. Assumes nothing.
+use mathlib.Core.Path.{_≡_, refl, sym, ap, subst, subst₂, _∙_}
+use mathlib.Core.Bool.{true}
+use Prim.Native.Nat.{ℕ, zero, suc, _+_, _-_, _*_, _/_, _^_, _≤_, _<_}
+use native.Mathlib.Nat.{add-mul, mul-comm, mul-le-mul-right, div-le-self}
+use native.Mathlib.Omega.{arith}
+use borrow.Author.Tests.{leb-true}
+use lib.Dec.{T}
+use lib.IntN.{ℤ, pos, negsuc, negℤ, natAbs, _+ℤ_, _-ℤ_, +ℤ-assoc, +ℤ-comm}
+use lib.Signed.{leZ, quotZ, shrZ, nonNeg}
+use Rattle.motion.specs.declared.level.Level.{Level}
+use Rattle.motion.specs.declared.vector.MotionVector.{MotionVector}
+use Rattle.motion.specs.Limits.{cellSide}
+use Rattle.motion.specs.Frame.{Side, Starts, Sized}
+use Rattle.motion.specs.Range.{mvMin, mvMax, clip, rangeOf, within, inRange}
+use Rattle.motion.specs.Block.{planeOf, croppedTo, blockOf}
+use Rattle.motion.proofs.RangeLaws.{pos-minus, within-parts, in-range-parts}
+use Rattle.motion.proofs.AxisLaws.{Fitting, fitting, start-inside, crop-most, room, inside, low-is, high-is}
+use Rattle.sad.specs.Sad.{Inside}
+use Rattle.sad.specs.Plane.{sampleAt, moved, orgStart, refStart, Reaches, Measured, Lies}
+use Rattle.sad.proofs.Places.{sample-is}
+
+-- where a vector's component moves a coordinate to, on an axis of a plane
+pub record Moved (S C P : ℕ) (z : ℤ) : Type 0 where
+  pub up : nonNeg z ≡ true
+  pub far : natAbs z + C ≤ S + 2 * P
+
+up-to : (S C P n : ℕ) {z : ℤ} → z ≡ pos n → n + C ≤ S + 2 * P → Moved S C P z
+up-to S C P n e h =
+    subst (Moved S C P) (sym e) (record { up = refl; far = h })
+
+-- B + q + P in one number, where the move goes back by q
+back-by : (B q P : ℕ) → q ≤ B + P → pos B +ℤ negℤ (pos q) +ℤ pos P ≡ pos (B + P - q)
+back-by B q P h =
+    +ℤ-assoc (pos B) (negℤ (pos q)) (pos P) ∙ ap (λ (z : ℤ). pos B +ℤ z) (+ℤ-comm (negℤ (pos q)) (pos P))
+    ∙ sym (+ℤ-assoc (pos B) (pos P) (negℤ (pos q))) ∙ pos-minus (B + P) q h
+
+below-by : (m n : ℕ) → leZ (negℤ (pos m)) (negsuc n) ≡ true → suc n ≤ m
+below-by zero n h = absurd (let z : _≡_ {A = ℕ} 0 1 = cc in omega arith)
+below-by (suc m) n h = omega (arith, leb-true n m h)
+
+module _ (B S C T P : ℕ) (rim : T + C ≤ P) (fits : B + C ≤ S) where
+  pub moved-in : (z : ℤ) → within (negℤ (pos (8 * (B + T + C)))) z (pos (8 * (S - B + T))) ≡ true → Moved S C P (moved B z +ℤ pos P)
+  unfolding moved
+  moved-in (pos n) h =
+      let most = within-parts (negℤ (pos (8 * (B + T + C)))) (pos n) (pos (8 * (S - B + T))) h .1 in
+      up-to S C P (B + n / 8 + P) refl (omega (arith, leb-true n (8 * (S - B + T)) most))
+  moved-in (negsuc n) h =
+      let least = below-by (8 * (B + T + C)) n (within-parts (negℤ (pos (8 * (B + T + C)))) (negsuc n) (pos (8 * (S - B + T))) h .0) in
+      up-to S C P (B + P - suc n / 8) (back-by B (suc n / 8) P (omega arith)) (omega arith)
+
+-- a block that starts at column X of row Y
+pub inside-by : (X Y stride rows w h n : ℕ) → X + w ≤ stride → Y + h ≤ rows → stride * rows ≤ n → Inside n (Y * stride + X) stride w h
+inside-by X Y stride rows w h n across down lent y p =
+    let last = mul-le-mul-right {m = Y + y + 1} {n = rows} stride (omega arith) in
+    omega (arith, last, add-mul (Y + y) 1 stride, add-mul Y y stride, mul-comm stride rows)
+
+module _ {l : Level} {size W H bx by : ℕ} (sized : Sized l size) (wide : Side W) (high : Side H) (across : Starts W size bx) (down : Starts H size by) where
+  fit : Fitting l size
+  fit = fitting sized
+
+  -- one axis: what a component in range does
+  axis : {side b : ℕ} → Side side → Starts side size b → (z : ℤ) → within (shrZ (clip (mvMin b (croppedTo side size b))) (2 ^ (l .ssdec))) z (shrZ (clip (mvMax (side / cellSide) b (croppedTo side size b))) (2 ^ (l .ssdec))) ≡ true → Moved (side / 2 ^ (l .ssdec)) (croppedTo side size b / 2 ^ (l .ssdec)) (l .pad) (moved (cellSide * b / 2 ^ (l .ssdec)) z +ℤ pos (l .pad))
+  axis {side} {b} frame starts z h =
+      let k = 2 ^ (l .ssdec) in
+      moved-in (cellSide * b / k) (side / k) (croppedTo side size b / k) (16 / k) (l .pad) (room fit frame starts) (inside fit frame starts) z
+      (subst₂ (λ (low high : ℤ). within low z high ≡ true) (low-is fit frame starts) (high-is fit frame starts) h)
+
+  columns : (v : MotionVector) → inRange (blockOf W H l size bx by .range) v ≡ true → Moved (W / 2 ^ (l .ssdec)) (croppedTo W size bx / 2 ^ (l .ssdec)) (l .pad) (moved (cellSide * bx / 2 ^ (l .ssdec)) (v .col) +ℤ pos (l .pad))
+  unfolding blockOf rangeOf
+  columns v h = axis wide across (v .col) (in-range-parts (blockOf W H l size bx by .range) v h .0)
+
+  lines : (v : MotionVector) → inRange (blockOf W H l size bx by .range) v ≡ true → Moved (H / 2 ^ (l .ssdec)) (croppedTo H size by / 2 ^ (l .ssdec)) (l .pad) (moved (cellSide * by / 2 ^ (l .ssdec)) (v .row) +ℤ pos (l .pad))
+  unfolding blockOf rangeOf
+  lines v h = axis high down (v .row) (in-range-parts (blockOf W H l size bx by .range) v h .1)
+
+  measured : Measured (blockOf W H l size bx by)
+  unfolding blockOf planeOf
+  measured =
+      let k = 2 ^ (l .ssdec) in
+      let cx = croppedTo W size bx in
+      let cy = croppedTo H size by in
+      record {
+        across = omega (arith, div-le-self (cellSide * bx) k, start-inside fit wide across, wide .most);
+        down = omega (arith, div-le-self (cellSide * by) k, start-inside fit high down, high .most);
+        pad = omega (arith, fit .pad);
+        stride = omega (arith, div-le-self W k, wide .most, fit .pad);
+        wide = omega (arith, div-le-self cx k, crop-most fit wide across .0, fit .largest);
+        high = omega (arith, div-le-self cy k, crop-most fit high down .0, fit .largest)
+      }
+
+  pub lies : (n : ℕ) → planeOf W H l .stride * planeOf W H l .rows ≤ n → Lies (blockOf W H l size bx by) n
+  unfolding blockOf planeOf orgStart refStart
+  lies n lent =
+      let b = blockOf W H l size bx by in
+      record {
+        measured = measured;
+        org =
+            subst (λ (s : ℕ). Inside n s (b .stride) (b .w) (b .h)) (sym (sample-is (b .stride) (b .pad) (pos (b .«po_x»)) (pos (b .«po_y»)) refl refl))
+            (inside-by (b .«po_x» + b .pad) (b .«po_y» + b .pad) (b .stride) (planeOf W H l .rows) (b .w) (b .h) n
+            (omega (arith, inside fit wide across)) (omega (arith, inside fit high down)) lent);
+        reaches = λ v h. record { left = columns v h .up; up = lines v h .up };
+        ref = λ v h.
+            subst (λ (s : ℕ). Inside n s (b .stride) (b .w) (b .h)) (sym (sample-is (b .stride) (b .pad) (moved (b .«po_x») (v .col)) (moved (b .«po_y») (v .row)) (columns v h .up) (lines v h .up)))
+            (inside-by (natAbs (moved (b .«po_x») (v .col) +ℤ pos (b .pad))) (natAbs (moved (b .«po_y») (v .row) +ℤ pos (b .pad))) (b .stride) (planeOf W H l .rows) (b .w) (b .h) n
+            (columns v h .far) (lines v h .far) lent)
+      }

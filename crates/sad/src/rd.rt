@@ -1,0 +1,59 @@
+use motion::block::Block;
+use motion::rate::get_mv_rate;
+use motion::vector::MotionVector;
+use crate::plane::org_start;
+use crate::plane::ref_start;
+use crate::sad::get_sad;
+
+ghost use mathlib.Core.Path.{_≡_};
+ghost use lib.ListN.{length};
+ghost use Rattle.sad.specs.Plane.{Lies};
+ghost use Rattle.sad.specs.Cost.{emptyRd, rdOf, rdAt};
+
+// The cost of a candidate, with its sum of absolute differences.
+pub struct MVCandidateRD {
+    pub cost: u64,
+    pub sad: u32,
+}
+
+impl MVCandidateRD {
+    // Dearer than any block can be.
+    pub fn empty() -> MVCandidateRD
+        ensures { λ r. ⌜ r ≡ emptyRd ⌝ }
+    {
+        MVCandidateRD {
+            cost: 0xffff_ffff_ffff_ffff,
+            sad: 0xffff_ffff,
+        }
+    }
+}
+
+pub fn compute_mv_rd(lambda: u32, sad: u32, cand_mv: MotionVector) -> MVCandidateRD
+    ensures { λ r. ⌜ r ≡ rdOf lambda sad «cand_mv» ⌝ }
+{
+    let rate = get_mv_rate(cand_mv);
+    MVCandidateRD {
+        cost: 256 * sad as u64 + rate as u64 * lambda as u64,
+        sad,
+    }
+}
+
+// The cost of moving a block by a vector, in range or not.
+pub fn get_fullpel_mv_rd(
+    b: Block,
+    plane_org: &[u8],
+    plane_ref: &[u8],
+    lambda: u32,
+    cand_mv: MotionVector,
+) -> MVCandidateRD
+    requires { ⌜ Lies b (length (now «plane_org»)) × Lies b (length (now «plane_ref»)) ⌝ }
+    ensures { λ r. ⌜ r ≡ rdAt b (now («plane_org» .entry)) (now («plane_ref» .entry)) lambda «cand_mv» ⌝ }
+{
+    if !b.range.holds(cand_mv) {
+        return MVCandidateRD::empty();
+    }
+    let src = org_start(b);
+    let dst = ref_start(b, cand_mv);
+    let sad = get_sad(plane_org, src, plane_ref, dst, b.stride, b.w, b.h);
+    compute_mv_rd(lambda, sad, cand_mv)
+}

@@ -1,0 +1,161 @@
+//! A call on one block that is lent the two planes of its level and a vector.
+
+use cases::{CONTENTS, Random, SEEDS, WEIGHTS, block, component};
+use oracle::{BlockAt, PAD};
+
+use crate::{
+    kind::Numbers,
+    lend::Lent,
+    refusal::Asked,
+    scenes::{Scene, Setting},
+};
+
+pub struct Call {
+    pub asked: Asked,
+    pub content: usize,
+    pub seed: u64,
+    /// The planes end at an unreadable page.
+    pub guarded: bool,
+    /// Lengths of the current plane and the reference.
+    lens: [usize; 2],
+    pub row: i16,
+    pub col: i16,
+    pub weight: u32,
+}
+
+/// The shift whose planes are lent; at a level that there is not, the full size.
+fn shift(level: usize) -> usize {
+    match level {
+        4 => 2,
+        3 => 1,
+        _ => 0,
+    }
+}
+
+fn length(random: &mut Random, guarded: bool, full: usize) -> usize {
+    let longer = if guarded {
+        0
+    } else {
+        1 + random.below(Lent::LONGER)
+    };
+    let any = random.below(full);
+    random.pick(&[full, full, full + longer, full - 1, any, 0])
+}
+
+impl Call {
+    /// A call that nothing refuses: a block of `setting`, planes exactly full
+    /// and guarded in one call of four, weight 0.
+    pub fn new(random: &mut Random, setting: &Setting, at: BlockAt, row: i16, col: i16) -> Self {
+        let mut call = Call {
+            asked: Asked::from(at),
+            content: setting.content,
+            seed: setting.seed,
+            guarded: random.one_in(4),
+            lens: [0; 2],
+            row,
+            col,
+            weight: 0,
+        };
+        call.lens = [call.full_len(); 2];
+        call
+    }
+
+    /// A call of any vector and weight that, in three draws of eight or so, has
+    /// numbers or lengths that are wrong or nearly so.
+    pub fn draw(random: &mut Random, setting: &Setting) -> Self {
+        let at = block(random, setting.width, setting.height);
+        let range = at.range();
+        let col = component(random, range.mvx_min, range.mvx_max);
+        let row = component(random, range.mvy_min, range.mvy_max);
+        let mut call = Call::new(random, setting, at, row, col);
+        call.weight = match random.below(6) {
+            0 => random.word() as u32,
+            1 => random.below(1_000) as u32,
+            _ => random.pick(&WEIGHTS),
+        };
+        for _ in 0..random.pick(&[0, 0, 0, 0, 0, 0, 1, 2]) {
+            call.asked.spoil(random);
+        }
+        let (guarded, full) = (call.guarded, call.full_len());
+        call.lens = [full; 2];
+        if random.one_in(4) {
+            call.lens = [0; 2].map(|_| length(random, guarded, full));
+        }
+        call
+    }
+
+    /// The frame that the planes are of: the smallest where none is described.
+    pub fn setting(&self) -> Setting {
+        let valid = self.asked.frame_is_valid();
+        Setting {
+            width: if valid { self.asked.width } else { 8 },
+            height: if valid { self.asked.height } else { 8 },
+            content: self.content,
+            seed: self.seed,
+        }
+    }
+
+    fn full_len(&self) -> usize {
+        let (setting, s) = (self.setting(), shift(self.asked.level));
+        ((setting.width >> s) + 2 * PAD[s]) * ((setting.height >> s) + 2 * PAD[s])
+    }
+
+    /// The current plane and the reference, or None where the scene has none so long.
+    pub fn planes<'a>(&self, scene: &'a Scene) -> Option<[&'a [u8]; 2]> {
+        let s = shift(self.asked.level);
+        let [cur, reference] = &scene.lent;
+        Some([
+            cur[s].lend(self.guarded, self.lens[0])?,
+            reference[s].lend(self.guarded, self.lens[1])?,
+        ])
+    }
+
+    /// Document 01's refusal of numbers 1 to 4; 0 for none.
+    pub fn refusal(&self) -> u32 {
+        self.asked.refusal_with_planes(self.lens)
+    }
+
+    /// The names of `numbers`.
+    pub fn columns() -> Vec<&'static str> {
+        let rest = [
+            "content",
+            "seed",
+            "guarded",
+            "cur_len",
+            "reference_len",
+            "row",
+            "col",
+            "weight",
+        ];
+        [&Asked::COLUMNS[..], &rest].concat()
+    }
+
+    pub fn numbers(&self) -> Vec<i128> {
+        let mut numbers = self.asked.numbers();
+        numbers.extend([
+            self.content as i128,
+            self.seed.into(),
+            self.guarded.into(),
+            self.lens[0] as i128,
+            self.lens[1] as i128,
+            self.row.into(),
+            self.col.into(),
+            self.weight.into(),
+        ]);
+        numbers
+    }
+
+    pub fn take(numbers: &mut Numbers<'_>) -> Option<Self> {
+        let call = Call {
+            asked: Asked::take(numbers)?,
+            content: numbers.take()?,
+            seed: numbers.take()?,
+            guarded: numbers.take::<u8>()? != 0,
+            lens: [numbers.take()?, numbers.take()?],
+            row: numbers.take()?,
+            col: numbers.take()?,
+            weight: numbers.take()?,
+        };
+        (call.content < CONTENTS.len() && call.seed < SEEDS).then_some(call)
+    }
+}

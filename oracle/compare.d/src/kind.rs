@@ -1,0 +1,56 @@
+//! What a kind of case is: numbers are drawn, and both sides answer them.
+
+use cases::Random;
+use oracle::BlockAt;
+
+use crate::{
+    kinds::{candidate::Candidate, range::Range, rate::Rate, sad::Sad},
+    scenes::{Scenes, Setting},
+};
+
+/// One kind. A case is its numbers and nothing else, so any case can be replayed.
+pub trait Kind {
+    fn name(&self) -> &'static str;
+
+    /// The names of a case's numbers.
+    fn columns(&self) -> Vec<&'static str>;
+
+    /// A case; where it has planes they are of `setting`.
+    fn draw(&self, random: &mut Random, setting: &Setting) -> Vec<i128>;
+
+    /// Both answers, or None where the numbers are no case of this kind.
+    fn run(&self, numbers: &mut Numbers<'_>, scenes: &mut Scenes) -> Option<Outcome>;
+}
+
+/// Every kind there is.
+pub const KINDS: [&dyn Kind; 4] = [&Rate, &Range, &Sad, &Candidate];
+
+/// Named values, in the order in which they are compared.
+pub type Answer = Vec<(&'static str, i128)>;
+
+pub struct Outcome {
+    /// The published Rust's answer, or that of document 01's table of refusals.
+    pub expected: Answer,
+    pub proved: Answer,
+    /// The refusal that was expected; 0 for none.
+    pub refusal: u32,
+    pub content: Option<usize>,
+    /// The planes ended at an unreadable page.
+    pub guarded: bool,
+    /// The block, where one was worked on.
+    pub block: Option<BlockAt>,
+}
+
+/// A case's numbers, taken one by one.
+pub struct Numbers<'a>(std::slice::Iter<'a, i128>);
+
+impl<'a> Numbers<'a> {
+    pub fn new(numbers: &'a [i128]) -> Self {
+        Numbers(numbers.iter())
+    }
+
+    /// The next number, or None where there is none or it does not fit.
+    pub fn take<T: TryFrom<i128>>(&mut self) -> Option<T> {
+        T::try_from(*self.0.next()?).ok()
+    }
+}

@@ -1,0 +1,64 @@
+//! The functions of the proved code, in the order and with the types that the
+//! crate `inter` exports.
+//!
+//! An answer of more than 16 bytes is written through a pointer that is passed
+//! first. That is how x86-64 returns one, and tools/hostlib keeps it elsewhere.
+
+#[repr(C)]
+pub struct Range {
+    pub code: u32,
+    pub mvx_min: i16,
+    pub mvx_max: i16,
+    pub mvy_min: i16,
+    pub mvy_max: i16,
+}
+
+#[repr(C)]
+pub struct Found {
+    pub code: u32,
+    pub row: i16,
+    pub col: i16,
+    pub sad: u32,
+    pub cost: u64,
+}
+
+impl Found {
+    /// No field is 0, so that one left unwritten under refusal shows.
+    pub const UNWRITTEN: Found = Found {
+        code: 99,
+        row: 99,
+        col: 99,
+        sad: 99,
+        cost: 99,
+    };
+}
+
+unsafe extern "C" {
+    pub fn lockdapple_rate(row: i16, col: i16) -> u32;
+
+    pub fn lockdapple_range(
+        width: usize,
+        height: usize,
+        level: usize,
+        refined: usize,
+        bx: usize,
+        by: usize,
+    ) -> Range;
+
+    pub fn lockdapple_candidate(
+        found: *mut Found,
+        width: usize,
+        height: usize,
+        level: usize,
+        refined: usize,
+        bx: usize,
+        by: usize,
+        cur: *const u8,
+        cur_len: usize,
+        reference: *const u8,
+        reference_len: usize,
+        row: i16,
+        col: i16,
+        weight: u32,
+    );
+}

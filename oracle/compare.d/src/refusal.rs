@@ -1,0 +1,151 @@
+//! Document 01's numbers 1 to 4, written from its table alone.
+
+use cases::Random;
+use oracle::BlockAt;
+
+use crate::kind::Numbers;
+
+/// What a caller asks for; nothing is known to be valid.
+#[derive(Clone, Copy)]
+pub struct Asked {
+    pub width: usize,
+    pub height: usize,
+    pub level: usize,
+    pub refined: usize,
+    pub bx: usize,
+    pub by: usize,
+}
+
+const SIDES: [usize; 9] = [
+    0,
+    4,
+    7,
+    12,
+    1_028,
+    1_032,
+    (1 << 32) + 64,
+    usize::MAX - 7,
+    usize::MAX,
+];
+const LEVELS: [usize; 6] = [0, 1, 5, 6, (1 << 32) + 2, usize::MAX];
+
+impl From<BlockAt> for Asked {
+    fn from(at: BlockAt) -> Self {
+        Asked {
+            width: at.width,
+            height: at.height,
+            level: at.level,
+            refined: at.refined.into(),
+            bx: at.bx,
+            by: at.by,
+        }
+    }
+}
+
+impl Asked {
+    /// The names of `numbers`.
+    pub const COLUMNS: [&'static str; 6] = ["width", "height", "level", "refined", "bx", "by"];
+
+    pub fn numbers(&self) -> Vec<i128> {
+        [
+            self.width,
+            self.height,
+            self.level,
+            self.refined,
+            self.bx,
+            self.by,
+        ]
+        .map(|n| n as i128)
+        .to_vec()
+    }
+
+    pub fn take(numbers: &mut Numbers<'_>) -> Option<Self> {
+        Some(Asked {
+            width: numbers.take()?,
+            height: numbers.take()?,
+            level: numbers.take()?,
+            refined: numbers.take()?,
+            bx: numbers.take()?,
+            by: numbers.take()?,
+        })
+    }
+
+    /// The block, where nothing is refused.
+    pub fn block(&self) -> BlockAt {
+        BlockAt {
+            width: self.width,
+            height: self.height,
+            level: self.level,
+            refined: self.refined != 0,
+            bx: self.bx,
+            by: self.by,
+        }
+    }
+
+    /// Makes one number wrong, or takes it to the edge of being so.
+    pub fn spoil(&mut self, random: &mut Random) {
+        let cell = |random: &mut Random, cell: usize, side: usize| {
+            let (cells, away) = (side / 4, random.below(16));
+            let beyond = [cells, cells.next_multiple_of(16), 1 << 62, usize::MAX];
+            let near = [1, 2, 4, away, 1 << 32].map(|by| cell.wrapping_add(by));
+            match random.below(3) {
+                0 => random.pick(&beyond),
+                1 => random.pick(&near),
+                _ => cells.saturating_sub(1),
+            }
+        };
+        match random.below(8) {
+            0 => self.width = random.pick(&SIDES),
+            1 => self.height = random.pick(&SIDES),
+            2 => self.level = random.pick(&LEVELS),
+            3 => (self.level, self.refined) = (4, random.pick(&[1, 2, usize::MAX])),
+            4 => self.refined = random.pick(&[0, 1, 2, 1 << 32, usize::MAX]),
+            5 => self.level = random.pick(&[2, 3, 4]),
+            6 => self.bx = cell(random, self.bx, self.width),
+            _ => self.by = cell(random, self.by, self.height),
+        }
+    }
+
+    pub fn frame_is_valid(&self) -> bool {
+        let valid = |side: usize| side.is_multiple_of(8) && (8..=1_024).contains(&side);
+        valid(self.width) && valid(self.height)
+    }
+
+    /// Numbers 1, 2 and 3; 0 where none applies.
+    pub fn refusal(&self) -> u32 {
+        if !self.frame_is_valid() {
+            return 1;
+        }
+        let block = match (self.level, self.refined != 0) {
+            (4, false) => 64,
+            (3, false) => 32,
+            (2, false) => 16,
+            (3, true) => 64,
+            (2, true) => 32,
+            _ => return 2,
+        };
+        let starts = |cell: usize, side: usize| cell < side / 4 && (4 * cell).is_multiple_of(block);
+        if !starts(self.bx, self.width) || !starts(self.by, self.height) {
+            return 3;
+        }
+        0
+    }
+
+    /// Numbers 1 to 4 of a call that is lent the two planes of its level.
+    pub fn refusal_with_planes(&self, lens: [usize; 2]) -> u32 {
+        let first = self.refusal();
+        if first != 0 {
+            return first;
+        }
+        let (s, p) = match self.level {
+            4 => (2, 20),
+            3 => (1, 40),
+            _ => (0, 48),
+        };
+        let (stride, rows) = ((self.width >> s) + 2 * p, (self.height >> s) + 2 * p);
+        if lens.iter().any(|&len| len < stride * rows) {
+            return 4;
+        }
+        0
+    }
+}

@@ -1,0 +1,32 @@
+//! One refinement.
+
+use super::{BIT_DEPTH, BlockAt, Found, Grid, Oracle, frame::REFERENCE};
+use crate::{
+    analyze::inter,
+    data::tile::{TileBlockOffset, TileStateMut},
+};
+
+impl Oracle {
+    /// `refine_subsampled_motion_estimate` of a refined block, at shift s.
+    ///
+    /// The published routine shifts its vector left by s; that is undone here,
+    /// exactly, since every vector in range is below 2^14 >> s.
+    pub fn refinement(&self, at: &BlockAt, grid: &Grid, weight: u32) -> Found {
+        assert!(at.refined);
+        self.check(at);
+        let ((w, h), ssdec) = (at.size(), at.ssdec());
+        let bo = TileBlockOffset(at.offset());
+        let refine = |ts: &mut TileStateMut<'_, u8>| {
+            inter::refine_subsampled_motion_estimate(
+                &self.fi, ts, w, h, bo, REFERENCE, ssdec, weight, BIT_DEPTH,
+            )
+            .unwrap()
+        };
+        let found = Found::from(self.on_grid(grid, refine).0);
+        Found {
+            row: found.row >> ssdec,
+            col: found.col >> ssdec,
+            ..found
+        }
+    }
+}
