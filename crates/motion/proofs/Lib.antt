@@ -1,6 +1,9 @@
 -- Laws that several proofs and other crates cite.
 pub mod Bias
 pub mod Words
+pub mod TestLaws
+pub mod VectorLaws
 pub mod RateLaws
 pub mod RangeLaws
+pub mod LevelLaws
 pub mod AxisLaws

@@ -1,6 +1,6 @@
 -- The ends of a range as one number each, and the tests that a vector in range passes. Assumes nothing.
 use mathlib.Core.Path.{_≡_, refl, sym, ap, _∙_}
-use mathlib.Core.Bool.{Bool, true, false, _&&_}
+use mathlib.Core.Bool.{Bool, true, false}
 use Prim.Native.Nat.{ℕ, zero, suc, _+_, _-_, _*_, _≤_, min}
 use native.Mathlib.Omega.{arith}
 use borrow.Author.Tests.{leb-true, leb-false}
@@ -10,6 +10,7 @@ use lib.Signed.{leZ}
 use mir.Val.{sel}
 use Rattle.motion.specs.Limits.{vectorLimit}
 use Rattle.motion.specs.Range.{mvMin, mvMax, clip, within, inRange}
+use Rattle.motion.proofs.TestLaws.{both}
 use Rattle.motion.specs.declared.vector.MotionVector.{MotionVector}
 use Rattle.motion.specs.declared.range.MvRange.{MvRange}
 
@@ -60,15 +61,11 @@ unfolding clip
 clip-down zero = refl
 clip-down (suc n) = down-by n (leb 16382 n) refl
 
-and-parts : (s t : Bool) → s && t ≡ true → (s ≡ true) × (t ≡ true)
-and-parts true t e = (refl, e)
-and-parts false t e = absurd (let z : _≡_ {A = ℕ} 0 1 = cc in omega arith)
-
 pub within-parts : (low x high : ℤ) → within low x high ≡ true → (leZ low x ≡ true) × (leZ x high ≡ true)
 unfolding within
-within-parts low x high h = and-parts (leZ low x) (leZ x high) h
+within-parts low x high h = both (leZ low x) (leZ x high) h
 
 -- a vector in range is so on both axes
 pub in-range-parts : (r : MvRange) (v : MotionVector) → inRange r v ≡ true → (within (r .«mvx_min») (v .col) (r .«mvx_max») ≡ true) × (within (r .«mvy_min») (v .row) (r .«mvy_max») ≡ true)
 unfolding inRange
-in-range-parts r v h = and-parts (within (r .«mvx_min») (v .col) (r .«mvx_max»)) (within (r .«mvy_min») (v .row) (r .«mvy_max»)) h
+in-range-parts r v h = both (within (r .«mvx_min») (v .col) (r .«mvx_max»)) (within (r .«mvy_min») (v .row) (r .«mvy_max»)) h

@@ -1,12 +1,12 @@
 -- `sad::rd::get_fullpel_mv_rd` meets its contract: in range, the reference block lies inside its plane.
 -- Assumes nothing.
-use borrow.Author.Tests.{not-true, not-false}
 use mathlib.Core.Path.{_≡_, sym, ap, ap₂, subst, _∙_}
 use mathlib.Core.Bool.{Bool, true, cond}
 use Prim.Native.Nat.{ℕ}
 use lib.ListN.{length}
 use denote.Ref.{now}
 use Rattle.motion.specs.Range.{inRange}
+use Rattle.motion.proofs.TestLaws.{passed, failed}
 use Rattle.sad.specs.Sad.{Inside, sadBlock}
 use Rattle.sad.specs.Cost.{emptyRd, rdOf, sadAt, rdAt}
 use borrow.Author.Needs.{needs}
@@ -14,7 +14,7 @@ use Rattle.sad.proofs.rd.get_fullpel_mv_rd.Statement.{statement}
 use Rattle.sad.proofs.rd.get_fullpel_mv_rd.Tie as tie
 
 in-range : (c : tie.Else1) → inRange (c .before .before .before .before .args .b .range) (c .before .before .before .before .args .cand-mv) ≡ true
-in-range c = sym (c .before .holds .ensures) ∙ not-false (c .before .holds .result) (c .if1 .left)
+in-range c = passed (c .before .holds .ensures) (c .if1 .left)
 
 holds-requires : tie.Need-holds-requires
 holds-requires c κs = search needs
@@ -27,7 +27,7 @@ unfolding rdAt
 returns c =
     let held = c .before .before in
     let a = held .before .before .before .args in
-    let out = sym (held .holds .ensures) ∙ not-true (held .holds .result) (c .before .if1 .taken) in
+    let out = failed (held .holds .ensures) (c .before .if1 .taken) in
     c .empty .ensures
     ∙ sym (ap (λ (t : Bool). cond t (rdOf (a .lambda) (sadAt (a .b) (now (a .plane-org)) (now (a .plane-ref)) (a .cand-mv)) (a .cand-mv)) emptyRd) out)
 

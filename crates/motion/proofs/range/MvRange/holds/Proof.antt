@@ -1,7 +1,6 @@
 -- `motion::range::MvRange::holds` meets its contract.
 -- Assumes nothing.
 use borrow.Author.Needs.{needs}
-use borrow.Author.Tests.{not-true, not-false}
 use mathlib.Core.Path.{_≡_, sym, ap, _∙_}
 use mathlib.Core.Bool.{Bool, _&&_}
 use lib.IntN.{ℤ}
@@ -9,6 +8,7 @@ use mir.Syntax.{w16}
 use mir.Val.{SFits, toZ, ofZ}
 use mir.ValLaws.{toZ-ofZ}
 use Rattle.motion.specs.Range.{within, inRange}
+use Rattle.motion.proofs.TestLaws.{passed, failed}
 use Rattle.motion.proofs.range.MvRange.holds.Statement.{statement}
 use Rattle.motion.proofs.range.MvRange.holds.Tie as tie
 
@@ -30,7 +30,7 @@ unfolding inRange
 returns c =
     let a = c .before .before .before .before .before .args in
     let rows = within (a .self .«mvy_min») (a .mv .row) (a .self .«mvy_max») in
-    sym (ap (λ (t : Bool). t && rows) (sym (columns (c .before)) ∙ not-true (c .before .between .result) (c .if1 .taken)))
+    sym (ap (λ (t : Bool). t && rows) (failed (columns (c .before)) (c .if1 .taken)))
 
 between-requires-2 : tie.Need-between-requires-2
 between-requires-2 c κs = search needs
@@ -43,7 +43,7 @@ returns-2 c =
     let v = first .before .before .before .before .args .mv in
     let rows = c .between2 .ensures ∙ within-plain {l = r .«mvy_min»} {x = v .row} {h = r .«mvy_max»} (search needs) (search needs) (search needs) in
     rows ∙ sym (ap (λ (t : Bool). t && within (r .«mvy_min») (v .row) (r .«mvy_max»))
-    (sym (columns first) ∙ not-false (first .between .result) (c .before .before .before .before .if1 .left)))
+    (passed (columns first) (c .before .before .before .before .if1 .left)))
 
 pub holds-spec : {M : Type 1} → statement M
 holds-spec = tie.close (tie.spec between-requires returns between-requires-2 returns-2)
