@@ -93,7 +93,7 @@ accepted width height level refined bx by e =
       high = side-of height (sides .1);
       sized = sized-of level refined (two .0);
       across = starts-of width size bx (three .0);
-      down = starts-of height size by (three .1)
+      down = starts-of height size by (three .1);
     }
 
 -- what number 4 leaves

@@ -1,6 +1,5 @@
 use motion::vector::MotionVector;
 use sad::rd::MVCandidateRD;
-
 ghost use mathlib.Core.Path.{_≡_};
 ghost use Rattle.inter.specs.Found.{refused, foundOf};
 

@@ -1,14 +1,13 @@
+use crate::found::Found;
+use crate::refusal::block_refusal;
+use crate::refusal::planes_refusal;
+use crate::refusal::size_of;
 use motion::block::Block;
 use motion::block::block_of;
 use motion::level::level_of;
 use motion::rate::get_mv_rate;
 use motion::vector::MotionVector;
 use sad::rd::get_fullpel_mv_rd;
-use crate::found::Found;
-use crate::refusal::block_refusal;
-use crate::refusal::planes_refusal;
-use crate::refusal::size_of;
-
 ghost use mathlib.Core.Path.{_≡_};
 ghost use lib.IntN.{pos};
 ghost use Rattle.motion.specs.Rate.{rateV};
@@ -25,11 +24,25 @@ pub struct Range {
     pub mvy_max: i16,
 }
 
-fn block_at(width: usize, height: usize, level: usize, refined: usize, bx: usize, by: usize) -> Block
+fn block_at(
+    width: usize,
+    height: usize,
+    level: usize,
+    refined: usize,
+    bx: usize,
+    by: usize,
+) -> Block
     requires { ⌜ blockRefusal width height level refined bx by ≡ 0 ⌝ }
     ensures { λ r. ⌜ r ≡ blockAt width height level refined bx by ⌝ }
 {
-    block_of(width, height, level_of(level), size_of(level, refined), bx, by)
+    block_of(
+        width,
+        height,
+        level_of(level),
+        size_of(level, refined),
+        bx,
+        by,
+    )
 }
 
 #[no_mangle]

@@ -1,4 +1,4 @@
 // The entry points: no function here asks anything of its caller; each refuses by document 01's numbers instead.
 pub mod found;
-pub mod refusal;
 pub mod leaves;
+pub mod refusal;

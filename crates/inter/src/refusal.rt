@@ -1,6 +1,5 @@
 use motion::block::plane_of;
 use motion::level::level_of;
-
 ghost use mathlib.Core.Path.{_≡_};
 ghost use Prim.Native.Nat.{_≤_};
 ghost use lib.ListN.{length};
@@ -41,7 +40,11 @@ pub fn size_of(level: usize, refined: usize) -> usize
     ensures { λ r. ⌜ r ≡ sizeOf level refined ⌝ }
 {
     let row = level_of(level);
-    if refined == 0 { row.mv_size } else { row.refined }
+    if refined == 0 {
+        row.mv_size
+    } else {
+        row.refined
+    }
 }
 
 fn start_ok(side: usize, level: usize, refined: usize, b: usize) -> bool
@@ -55,7 +58,14 @@ fn start_ok(side: usize, level: usize, refined: usize, b: usize) -> bool
 }
 
 // The tests of numbers 1 to 3, in their order.
-pub fn block_refusal(width: usize, height: usize, level: usize, refined: usize, bx: usize, by: usize) -> u32
+pub fn block_refusal(
+    width: usize,
+    height: usize,
+    level: usize,
+    refined: usize,
+    bx: usize,
+    by: usize,
+) -> u32
     ensures { λ r. ⌜ r ≡ blockRefusal width height level refined bx by ⌝ }
 {
     if !side_ok(width) {
@@ -85,7 +95,13 @@ fn plane_ok(width: usize, height: usize, level: usize, len: usize) -> bool
 }
 
 // The test of number 4, of the two planes of a level.
-pub fn planes_refusal(width: usize, height: usize, level: usize, cur: &[u8], reference: &[u8]) -> u32
+pub fn planes_refusal(
+    width: usize,
+    height: usize,
+    level: usize,
+    cur: &[u8],
+    reference: &[u8],
+) -> u32
     requires { ⌜ (width ≤ largestSide) × (height ≤ largestSide) ⌝ }
     ensures { λ r. ⌜ r ≡ planesRefusal width height level (length (now (cur .entry))) (length (now (reference .entry))) ⌝ }
 {

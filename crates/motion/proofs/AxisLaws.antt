@@ -114,7 +114,7 @@ module _ {l : Level} {size side b : ℕ} (fit : Fitting l size) (frame : Side si
       let T = 16 / k in
       let C = c / k in
       let far : min (32 * b + 128 + 8 * c) vectorLimit ≡ 8 * (B + T + C) * k =
-          omega (arith, mul-assoc 8 (B + T + C) k, add-mul (B + T) C k, add-mul B T k, start-exact, rim-exact, crop-exact, start-inside, frame .most, crop-most .0, fit .largest) in
+      omega (arith, mul-assoc 8 (B + T + C) k, add-mul (B + T) C k, add-mul B T k, start-exact, rim-exact, crop-exact, start-inside, frame .most, crop-most .0, fit .largest) in
       ap (λ (z : ℤ). shrZ z k) (ap clip (min-is b c) ∙ clip-down (32 * b + 128 + 8 * c) ∙ ap (λ (n : ℕ). negℤ (pos n)) far)
       ∙ shr-down (8 * (B + T + C)) k k-pos
 
@@ -129,6 +129,6 @@ module _ {l : Level} {size side b : ℕ} (fit : Fitting l size) (frame : Side si
       let whole : (S - B) + B ≡ S = omega (arith, inside) in
       let apart : (S - B) * k + B * k ≡ S * k = sym (add-mul (S - B) B k) ∙ ap (λ (m : ℕ). m * k) whole in
       let far : min n vectorLimit ≡ 8 * (S - B + T) * k =
-          omega (arith, mul-assoc 8 (S - B + T) k, add-mul (S - B) T k, apart, start-exact, rim-exact, side-exact, start-inside, frame .most, cells-whole) in
+      omega (arith, mul-assoc 8 (S - B + T) k, add-mul (S - B) T k, apart, start-exact, rim-exact, side-exact, start-inside, frame .most, cells-whole) in
       ap (λ (z : ℤ). shrZ z k) (ap clip (max-is (side / cellSide) b c (omega (arith, starts .inside))) ∙ clip-up n ∙ ap pos far)
       ∙ shr-up (8 * (S - B + T)) k k-pos

@@ -12,7 +12,7 @@ planeOf width height l =
     record {
       stride = width / 2 ^ (l .ssdec) + 2 * l .pad;
       rows = height / 2 ^ (l .ssdec) + 2 * l .pad;
-      pad = l .pad
+      pad = l .pad;
     }
 
 -- a block's side in full-size pixels, cropped at the frame edge
@@ -30,5 +30,5 @@ blockOf width height l size bx by =
       stride = planeOf width height l .stride;
       pad = l .pad;
       range =
-          rangeOf (width / cellSide) (height / cellSide) bx by (croppedTo width size bx) (croppedTo height size by) (l .ssdec)
+          rangeOf (width / cellSide) (height / cellSide) bx by (croppedTo width size bx) (croppedTo height size by) (l .ssdec);
     }

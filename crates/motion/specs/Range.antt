@@ -28,7 +28,7 @@ rangeOf columns rows bx by bw bh s =
       «mvx_min» = shrZ (clip (mvMin bx bw)) (2 ^ s);
       «mvx_max» = shrZ (clip (mvMax columns bx bw)) (2 ^ s);
       «mvy_min» = shrZ (clip (mvMin by bh)) (2 ^ s);
-      «mvy_max» = shrZ (clip (mvMax rows by bh)) (2 ^ s)
+      «mvy_max» = shrZ (clip (mvMax rows by bh)) (2 ^ s);
     }
 
 -- a number between two others, both ends included

@@ -1,7 +1,6 @@
 use crate::level::Level;
 use crate::range::MvRange;
 use crate::range::get_mv_range;
-
 ghost use mathlib.Core.Path.{_≡_};
 ghost use Prim.Native.Nat.{_*_, _≤_, _<_};
 ghost use Rattle.motion.specs.Limits.{largestSide, cellSide};
@@ -47,7 +46,14 @@ pub fn cropped(side: usize, mv_size: usize, b: usize) -> usize
     if mv_size < left { mv_size } else { left }
 }
 
-pub fn block_of(width: usize, height: usize, level: Level, mv_size: usize, bx: usize, by: usize) -> Block
+pub fn block_of(
+    width: usize,
+    height: usize,
+    level: Level,
+    mv_size: usize,
+    bx: usize,
+    by: usize,
+) -> Block
     requires { ⌜ (cellSide * bx ≤ width) × (width ≤ largestSide) × (cellSide * by ≤ height) × (height ≤ largestSide) ⌝ }
     requires { ⌜ (level .ssdec < 16) × (level .pad ≤ largestSide) × («mv_size» ≤ largestSide) ⌝ }
     ensures { λ r. ⌜ r ≡ blockOf width height level «mv_size» bx by ⌝ }

@@ -1,6 +1,6 @@
 // Vectors, their rate, the range of a block, levels and the geometry of a block.
-pub mod vector;
-pub mod rate;
-pub mod range;
-pub mod level;
 pub mod block;
+pub mod level;
+pub mod range;
+pub mod rate;
+pub mod vector;

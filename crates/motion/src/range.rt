@@ -1,5 +1,4 @@
 use crate::vector::MotionVector;
-
 ghost use mathlib.Core.Path.{_≡_};
 ghost use Prim.Native.Nat.{ℕ, _+_, _*_, _≤_, _<_, _^_, min};
 ghost use lib.IntN.{pos};

@@ -1,5 +1,4 @@
 use crate::vector::MotionVector;
-
 ghost use mathlib.Core.Path.{_≡_};
 ghost use lib.IntN.{natAbs};
 ghost use Rattle.motion.specs.Rate.{rate, rateV};

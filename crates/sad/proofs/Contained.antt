@@ -87,7 +87,7 @@ module _ {l : Level} {size W H bx by : ℕ} (sized : Sized l size) (wide : Side 
         pad = omega (arith, fit .pad);
         stride = omega (arith, div-le-self W k, wide .most, fit .pad);
         wide = omega (arith, div-le-self cx k, crop-most fit wide across .0, fit .largest);
-        high = omega (arith, div-le-self cy k, crop-most fit high down .0, fit .largest)
+        high = omega (arith, div-le-self cy k, crop-most fit high down .0, fit .largest);
       }
 
   pub lies : (n : ℕ) → planeOf W H l .stride * planeOf W H l .rows ≤ n → Lies (blockOf W H l size bx by) n
@@ -104,5 +104,5 @@ module _ {l : Level} {size W H bx by : ℕ} (sized : Sized l size) (wide : Side 
         ref = λ v h.
             subst (λ (s : ℕ). Inside n s (b .stride) (b .w) (b .h)) (sym (sample-is (b .stride) (b .pad) (moved (b .«po_x») (v .col)) (moved (b .«po_y») (v .row)) (columns v h .up) (lines v h .up)))
             (inside-by (natAbs (moved (b .«po_x») (v .col) +ℤ pos (b .pad))) (natAbs (moved (b .«po_y») (v .row) +ℤ pos (b .pad))) (b .stride) (planeOf W H l .rows) (b .w) (b .h) n
-            (columns v h .far) (lines v h .far) lent)
+            (columns v h .far) (lines v h .far) lent);
       }

@@ -1,6 +1,5 @@
 use motion::block::Block;
 use motion::vector::MotionVector;
-
 ghost use mathlib.Core.Path.{_≡_};
 ghost use mathlib.Core.Bool.{true};
 ghost use Prim.Native.Nat.{_≤_};

@@ -1,10 +1,9 @@
-use motion::block::Block;
-use motion::rate::get_mv_rate;
-use motion::vector::MotionVector;
 use crate::plane::org_start;
 use crate::plane::ref_start;
 use crate::sad::get_sad;
-
+use motion::block::Block;
+use motion::rate::get_mv_rate;
+use motion::vector::MotionVector;
 ghost use mathlib.Core.Path.{_≡_};
 ghost use lib.ListN.{length};
 ghost use Rattle.sad.specs.Plane.{Lies};

@@ -70,7 +70,7 @@ returns c =
       h = down i / m;
       stride = plane i .stride;
       pad = plane i .pad;
-      range = (range ∙ ap₂ (λ (w h : ℕ). rangeOf (a .width / cellSide) (a .height / cellSide) (a .bx) (a .by) w h (a .level .ssdec)) across down) i
+      range = (range ∙ ap₂ (λ (w h : ℕ). rangeOf (a .width / cellSide) (a .height / cellSide) (a .bx) (a .by) w h (a .level .ssdec)) across down) i;
     }
 
 pub block-of-spec : {M : Type 1} → statement M

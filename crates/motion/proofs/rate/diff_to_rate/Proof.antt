@@ -26,8 +26,8 @@ unfolding rate
 returns c =
     let z = c .before .args .diff in
     let halved : c .magnitude .result ≡ natAbs (shrZ z 2) =
-        c .magnitude .ensures
-        ∙ ap natAbs (shr-word (c .before .fits .diff) 2) in
+    c .magnitude .ensures
+    ∙ ap natAbs (shr-word (c .before .fits .diff) 2) in
     omega (arith, zeros-and-length (c .magnitude .result), ap bitLength halved)
 
 pub diff-to-rate-spec : {M : Type 1} → statement M

@@ -60,8 +60,8 @@ returns-2 c =
     let cur = now (a .plane-org) in
     let ref = now (a .plane-ref) in
     let sad : c .before .get-sad .result ≡ sadAt b cur ref v =
-        c .before .get-sad .ensures
-        ∙ ap₂ (λ (s d : ℕ). sadBlock cur s ref d (b .stride) (b .w) (b .h)) (starts .before .org-start .ensures) (starts .ref-start .ensures) in
+    c .before .get-sad .ensures
+    ∙ ap₂ (λ (s d : ℕ). sadBlock cur s ref d (b .stride) (b .w) (b .h)) (starts .before .org-start .ensures) (starts .ref-start .ensures) in
     c .compute-mv-rd .ensures ∙ ap (λ (s : ℕ). rdOf (a .lambda) s v) sad
     ∙ sym (ap (λ (t : Bool). cond t (rdOf (a .lambda) (sadAt b cur ref v) v) emptyRd) (in-range (starts .before .before)))
 

@@ -1,0 +1,40 @@
+-- The cost of a candidate by cases, and the bounds that make u32 and u64 enough. Assumes nothing.
+use mathlib.Core.Path.{_≡_, ap}
+use mathlib.Core.Bool.{Bool, true, false, cond}
+use mathlib.Core.List.{List}
+use Prim.Native.Nat.{ℕ, _+_, _-_, _*_, _≤_, _<_, _^_}
+use native.Mathlib.Nat.{le-trans, mul-le-mul, mul-le-mul-left, mul-le-mul-right}
+use native.Mathlib.Omega.{arith}
+use Rattle.motion.specs.declared.block.Block.{Block}
+use Rattle.motion.specs.declared.vector.MotionVector.{MotionVector}
+use Rattle.motion.specs.Range.{inRange}
+use Rattle.motion.specs.Rate.{rateV}
+use Rattle.motion.proofs.RateLaws.{rateV-le}
+use Rattle.sad.specs.Sad.{largestBlock}
+use Rattle.sad.specs.Plane.{orgStart, refStart, Measured}
+use Rattle.sad.specs.Cost.{emptyRd, rdOf, sadAt, rdAt}
+use Rattle.sad.proofs.Sums.{Under, block-le}
+
+-- the largest sum that a block of bytes has
+abbrev pub mostSad : ℕ
+mostSad = 255 * largestBlock * largestBlock
+
+module _ (b : Block) (cur ref : List ℕ) (weight : ℕ) (v : MotionVector) where
+  pub rd-in : inRange (b .range) v ≡ true → rdAt b cur ref weight v ≡ rdOf weight (sadAt b cur ref v) v
+  unfolding rdAt
+  rd-in h = ap (λ (t : Bool). cond t (rdOf weight (sadAt b cur ref v) v) emptyRd) h
+
+  pub rd-out : inRange (b .range) v ≡ false → rdAt b cur ref weight v ≡ emptyRd
+  unfolding rdAt
+  rd-out h = ap (λ (t : Bool). cond t (rdOf weight (sadAt b cur ref v) v) emptyRd) h
+
+  pub sad-most : Measured b → Under 255 cur → Under 255 ref → sadAt b cur ref v ≤ mostSad
+  unfolding sadAt
+  sad-most m hc hr =
+      le-trans (block-le 255 cur ref hc hr (orgStart b) (refStart b v) (b .stride) (b .w) (b .h))
+      (mul-le-mul {m₁ = b .h} {n₂ = 255 * largestBlock} (mul-le-mul-left 255 (m .wide)) (m .high))
+
+-- a cost stays far below the largest u64, which only a vector out of range has
+pub cost-most : (weight sad : ℕ) (v : MotionVector) → weight < 2 ^ 32 → sad < 2 ^ 32 → rdOf weight sad v .cost < 2 ^ 41
+unfolding rdOf
+cost-most weight sad v hw hs = omega (arith, mul-le-mul-right weight (rateV-le v))
