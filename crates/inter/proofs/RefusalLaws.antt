@@ -11,10 +11,13 @@ use Rattle.motion.specs.Level.{level4, level3, level2, levelOf}
 use Rattle.motion.specs.Frame.{Side, Starts, Sized, own4, own3, own2, refined3, refined2}
 use Rattle.motion.specs.Block.{planeOf}
 use Rattle.motion.proofs.TestLaws.{both}
+use Rattle.sad.specs.Plane.{Lies}
+use Rattle.sad.proofs.Contained.{lies}
 use Rattle.motion.proofs.LevelLaws.{each-level}
 use Rattle.inter.specs.declared.found.Found.{Found}
 use Rattle.inter.specs.Found.{refused, answer}
-use Rattle.inter.specs.Refusal.{refuse, _then_, sideOk, levelOk, sizeOf, startOk, planeOk, blockRefusal, planesRefusal}
+use Rattle.inter.specs.Refusal.{refuse, _then_, sideOk, levelOk, sizeOf, startOk, planeOk, blockRefusal, planesRefusal, callRefusal, cells, gridOk}
+use Rattle.inter.specs.Call.{blockAt}
 
 -- no number at all: the first test passed, and no later one refused
 pub first-passed : (n : ℕ) (t : Bool) (later : ℕ) → refuse (suc n) t then later ≡ 0 → (t ≡ true) × (later ≡ 0)
@@ -26,6 +29,21 @@ pub passes : (n : ℕ) (t : Bool) → refuse (suc n) t ≡ 0 → t ≡ true
 unfolding refuse
 passes n true e = refl
 passes n false e = absurd (omega arith)
+
+-- the first of two numbers that is not 0
+pub then-first : (n later : ℕ) → (n ≡ 0 → ⊥) → n then later ≡ n
+unfolding _then_
+then-first zero later h = absurd (h refl)
+then-first (suc n) later h = refl
+
+pub then-later : (n later : ℕ) → n ≡ 0 → n then later ≡ later
+unfolding _then_
+then-later n later e = ap (λ (m : ℕ). m then later) e
+
+pub none-of : (n later : ℕ) → n then later ≡ 0 → (n ≡ 0) × (later ≡ 0)
+unfolding _then_
+none-of zero later e = (refl, e)
+none-of (suc n) later e = absurd (omega arith)
 
 pub side-of : (n : ℕ) → sideOk n ≡ true → Side n
 unfolding sideOk
@@ -107,6 +125,40 @@ lent width height level n m e =
     let parts = both (planeOk width height level n) (planeOk width height level m) (passes 3 (planeOk width height level n && planeOk width height level m) e) in
     record { cur = leb-true _ n (parts .0); ref = leb-true _ m (parts .1) }
 
+-- a call that numbers 1 to 4 leave has its block inside both planes
+pub record Opened (width height level refined bx by n m : ℕ) : Type 0 where
+  pub none : blockRefusal width height level refined bx by ≡ 0
+  pub block : Accepted width height level refined bx by
+  pub cur : Lies (blockAt width height level refined bx by) n
+  pub ref : Lies (blockAt width height level refined bx by) m
+
+pub opened : (width height level refined bx by n m : ℕ) → callRefusal width height level refined bx by n m ≡ 0 → Opened width height level refined bx by n m
+unfolding callRefusal blockAt
+opened width height level refined bx by n m e =
+    let parts = none-of (blockRefusal width height level refined bx by) (planesRefusal width height level n m) e in
+    let ok = accepted width height level refined bx by (parts .0) in
+    let planes = lent width height level n m (parts .1) in
+    record {
+      none = parts .0;
+      block = ok;
+      cur = lies (ok .sized) (ok .wide) (ok .high) (ok .across) (ok .down) n (planes .cur);
+      ref = lies (ok .sized) (ok .wide) (ok .high) (ok .across) (ok .down) m (planes .ref);
+    }
+
+-- what number 5 leaves
+pub record Held (width height nr nc ns : ℕ) : Type 0 where
+  pub rows : cells width height ≤ nr
+  pub cols : cells width height ≤ nc
+  pub sads : cells width height ≤ ns
+
+pub held : (width height rows cols sads : ℕ) → gridOk width height rows cols sads ≡ true → Held width height rows cols sads
+unfolding gridOk
+held width height rows cols sads e =
+    let n = cells width height in
+    let first = both (leb n rows) (leb n cols && leb n sads) e in
+    let rest = both (leb n cols) (leb n sads) (first .1) in
+    record { rows = leb-true n rows (first .0); cols = leb-true n cols (rest .0); sads = leb-true n sads (rest .1) }
+
 -- sizes are of the table, whatever the numbers
 pub size-bounds : (level refined : ℕ) → (0 < sizeOf level refined) × (sizeOf level refined ≤ 64)
 unfolding sizeOf
@@ -133,6 +185,16 @@ pub refuses : (n : ℕ) (f : Found) → (n ≡ 0 → ⊥) → answer n f ≡ ref
 unfolding answer
 refuses n f h = rw (ne-eqb n 0 h)
 
-pub finds : (n : ℕ) (f : Found) → n ≡ 0 → answer n f ≡ f
+-- the same of a last test
+pub refuses-at : (n : ℕ) (t : Bool) (f : Found) → t ≡ false → answer (refuse (suc n) t) f ≡ refused (suc n)
+unfolding refuse
+refuses-at n t f e =
+    ap (λ (s : Bool). answer (refuse (suc n) s) f) e ∙ refuses (suc n) f (λ h. absurd (omega arith))
+
+pub finds : (n : ℕ) (t : Bool) (f : Found) → t ≡ true → answer (refuse n t) f ≡ f
+unfolding answer refuse
+finds n t f e = rw e
+
+pub answers : (n : ℕ) (f : Found) → n ≡ 0 → answer n f ≡ f
 unfolding answer
-finds n f e = rw (eq-eqb n 0 e)
+answers n f e = rw (eq-eqb n 0 e)

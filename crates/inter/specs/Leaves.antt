@@ -1,24 +1,18 @@
 -- The entry points that open the leaves: a range and the cost of one candidate.
-use Prim.Native.Nat.{ℕ, _/_}
+use Prim.Native.Nat.{ℕ}
 use mathlib.Core.Bool.{cond}
 use mathlib.Core.List.{List}
 use lib.Dec.{eqb}
-use lib.IntN.{ℤ, pos}
+use lib.IntN.{pos}
 use lib.ListN.{length}
 use Rattle.motion.specs.declared.vector.MotionVector.{MotionVector}
-use Rattle.motion.specs.declared.block.Block.{Block}
 use Rattle.motion.specs.declared.range.MvRange.{MvRange}
-use Rattle.motion.specs.Level.{levelOf}
-use Rattle.motion.specs.Block.{blockOf}
 use Rattle.sad.specs.Cost.{rdAt}
 use Rattle.inter.specs.declared.found.Found.{Found}
 use Rattle.inter.specs.declared.leaves.Range.{Range}
 use Rattle.inter.specs.Found.{foundOf, answer}
-use Rattle.inter.specs.Refusal.{blockRefusal, planesRefusal, sizeOf, _then_}
-
--- the block that a call names by level, refined or not, and cell
-unfoldable pub blockAt : ℕ → ℕ → ℕ → ℕ → ℕ → ℕ → Block
-blockAt width height level refined bx by = blockOf width height (levelOf level) (sizeOf level refined) bx by
+use Rattle.inter.specs.Call.{blockAt}
+use Rattle.inter.specs.Refusal.{blockRefusal, callRefusal}
 
 -- a range with its number; 0 in each field where refused
 unfoldable pub rangeWith : ℕ → MvRange → Range
@@ -35,5 +29,5 @@ rangeAnswer width height level refined bx by =
 -- the cost of one vector for a block
 unfoldable pub candidateAnswer : ℕ → ℕ → ℕ → ℕ → ℕ → ℕ → List ℕ → List ℕ → MotionVector → ℕ → Found
 candidateAnswer width height level refined bx by cur ref v weight =
-    answer (blockRefusal width height level refined bx by then planesRefusal width height level (length cur) (length ref))
+    answer (callRefusal width height level refined bx by (length cur) (length ref))
     (foundOf v (rdAt (blockAt width height level refined bx by) cur ref weight v))

@@ -47,3 +47,17 @@ blockRefusal width height level refined bx by =
 -- the test of the two planes of a level, of n and m samples
 unfoldable pub planesRefusal : ℕ → ℕ → ℕ → ℕ → ℕ → ℕ
 planesRefusal width height level n m = refuse 4 (planeOk width height level n && planeOk width height level m)
+
+-- the tests of a call with a block and the two planes of its level
+unfoldable pub callRefusal : ℕ → ℕ → ℕ → ℕ → ℕ → ℕ → ℕ → ℕ → ℕ
+callRefusal width height level refined bx by n m =
+    blockRefusal width height level refined bx by then planesRefusal width height level n m
+
+-- a grid has W/4 columns and H/4 rows of cells
+unfoldable pub cells : ℕ → ℕ → ℕ
+cells width height = (width / cellSide) * (height / cellSide)
+
+-- 5: none of the grid's three buffers is too short
+unfoldable pub gridOk : ℕ → ℕ → ℕ → ℕ → ℕ → Bool
+gridOk width height rows cols sads =
+    leb (cells width height) rows && (leb (cells width height) cols && leb (cells width height) sads)

@@ -1,18 +1,13 @@
+use crate::call::block_at;
 use crate::found::Found;
 use crate::refusal::block_refusal;
-use crate::refusal::planes_refusal;
-use crate::refusal::size_of;
-use motion::block::Block;
-use motion::block::block_of;
-use motion::level::level_of;
+use crate::refusal::call_refusal;
 use motion::rate::get_mv_rate;
 use motion::vector::MotionVector;
 use sad::rd::get_fullpel_mv_rd;
 ghost use mathlib.Core.Path.{_≡_};
-ghost use lib.IntN.{pos};
 ghost use Rattle.motion.specs.Rate.{rateV};
-ghost use Rattle.inter.specs.Refusal.{blockRefusal};
-ghost use Rattle.inter.specs.Leaves.{blockAt, rangeAnswer, candidateAnswer};
+ghost use Rattle.inter.specs.Leaves.{rangeAnswer, candidateAnswer};
 
 // A number of document 01, and the ends of a block's range.
 #[repr(C)]
@@ -22,27 +17,6 @@ pub struct Range {
     pub mvx_max: i16,
     pub mvy_min: i16,
     pub mvy_max: i16,
-}
-
-fn block_at(
-    width: usize,
-    height: usize,
-    level: usize,
-    refined: usize,
-    bx: usize,
-    by: usize,
-) -> Block
-    requires { ⌜ blockRefusal width height level refined bx by ≡ 0 ⌝ }
-    ensures { λ r. ⌜ r ≡ blockAt width height level refined bx by ⌝ }
-{
-    block_of(
-        width,
-        height,
-        level_of(level),
-        size_of(level, refined),
-        bx,
-        by,
-    )
 }
 
 #[no_mangle]
@@ -99,13 +73,9 @@ pub extern "C" fn lockdapple_candidate(
 ) -> Found
     ensures { λ r. ⌜ r ≡ candidateAnswer width height level refined bx by (now (cur .entry)) (now (reference .entry)) (record { row = row; col = col }) weight ⌝ }
 {
-    let code = block_refusal(width, height, level, refined, bx, by);
+    let code = call_refusal(width, height, level, refined, bx, by, cur, reference);
     if code != 0 {
         return Found::refuse(code);
-    }
-    let short = planes_refusal(width, height, level, cur, reference);
-    if short != 0 {
-        return Found::refuse(short);
     }
     let b = block_at(width, height, level, refined, bx, by);
     let mv = MotionVector { row, col };

@@ -3,7 +3,7 @@ use motion::level::level_of;
 ghost use mathlib.Core.Path.{_≡_};
 ghost use Prim.Native.Nat.{_≤_};
 ghost use lib.ListN.{length};
-ghost use Rattle.inter.specs.Refusal.{sideOk, levelOk, sizeOf, startOk, planeOk, blockRefusal, planesRefusal};
+ghost use Rattle.inter.specs.Refusal.{sideOk, levelOk, sizeOf, startOk, planeOk, blockRefusal, planesRefusal, callRefusal, gridOk};
 ghost use Rattle.motion.specs.Limits.{largestSide};
 
 const LARGEST_SIDE: usize = 1024;
@@ -95,13 +95,7 @@ fn plane_ok(width: usize, height: usize, level: usize, len: usize) -> bool
 }
 
 // The test of number 4, of the two planes of a level.
-pub fn planes_refusal(
-    width: usize,
-    height: usize,
-    level: usize,
-    cur: &[u8],
-    reference: &[u8],
-) -> u32
+fn planes_refusal(width: usize, height: usize, level: usize, cur: &[u8], reference: &[u8]) -> u32
     requires { ⌜ (width ≤ largestSide) × (height ≤ largestSide) ⌝ }
     ensures { λ r. ⌜ r ≡ planesRefusal width height level (length (now (cur .entry))) (length (now (reference .entry))) ⌝ }
 {
@@ -112,4 +106,39 @@ pub fn planes_refusal(
         return 4;
     }
     0
+}
+
+// The tests of numbers 1 to 4, in their order.
+pub fn call_refusal(
+    width: usize,
+    height: usize,
+    level: usize,
+    refined: usize,
+    bx: usize,
+    by: usize,
+    cur: &[u8],
+    reference: &[u8],
+) -> u32
+    ensures { λ r. ⌜ r ≡ callRefusal width height level refined bx by (length (now (cur .entry))) (length (now (reference .entry))) ⌝ }
+{
+    let code = block_refusal(width, height, level, refined, bx, by);
+    if code != 0 {
+        return code;
+    }
+    planes_refusal(width, height, level, cur, reference)
+}
+
+// The test of number 5: whether a grid of these three lengths holds a frame's cells.
+pub fn grid_ok(width: usize, height: usize, rows: usize, cols: usize, sads: usize) -> bool
+    requires { ⌜ (width ≤ largestSide) × (height ≤ largestSide) ⌝ }
+    ensures { λ r. ⌜ r ≡ gridOk width height rows cols sads ⌝ }
+{
+    let cells = (width / 4) * (height / 4);
+    if rows < cells {
+        return false;
+    }
+    if cols < cells {
+        return false;
+    }
+    cells <= sads
 }

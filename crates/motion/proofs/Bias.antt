@@ -7,8 +7,8 @@ use native.Mathlib.Nat.{le-suc, le-of-suc-le-suc, lt-irrefl, lt-of-lt-of-le, lt-
 use native.Mathlib.Omega.{arith}
 use borrow.Author.Tests.{ltb-true, ltb-false, lt-ltb, le-ltb, le-leb, lt-leb, leb-true, leb-false}
 use lib.Dec.{T, ltb, leb}
-use lib.IntN.{ℤ, pos, negsuc, negℤ, subℕ, _+ℤ_, _-ℤ_, _*ℤ_}
-use lib.Signed.{mag, ltZ, leZ, quotZ, shrZ}
+use lib.IntN.{ℤ, pos, negsuc, negℤ, natAbs, subℕ, _+ℤ_, _-ℤ_, _*ℤ_}
+use lib.Signed.{mag, ltZ, leZ, nonNeg, quotZ, shrZ}
 
 abbrev pub bias : ℤ → ℕ
 bias (pos n) = 2 ^ 40 + n
@@ -55,7 +55,7 @@ pub bias-neg : (a : ℤ) → Small a → bias (negℤ a) + bias a ≡ 2 ^ 41
 bias-neg (pos n) h = omega (arith, bias-negpos n (omega arith))
 bias-neg (negsuc n) h = omega arith
 
-mag-negℤ : (b : ℤ) → mag (negℤ b) ≤ suc (mag b)
+pub mag-negℤ : (b : ℤ) → mag (negℤ b) ≤ suc (mag b)
 mag-negℤ (pos zero) = omega arith
 mag-negℤ (pos (suc n)) = omega arith
 mag-negℤ (negsuc n) = omega arith
@@ -127,3 +127,8 @@ bias-inj (pos a) (pos b) ha hb e = ap pos (omega arith)
 bias-inj (pos a) (negsuc b) ha hb e = absurd (omega arith)
 bias-inj (negsuc a) (pos b) ha hb e = absurd (omega arith)
 bias-inj (negsuc a) (negsuc b) ha hb e = ap negsuc (omega arith)
+
+-- no negative number, and its size
+pub up-bias : (z : ℤ) → 2 ^ 40 ≤ bias z → (nonNeg z ≡ true) × (natAbs z + 2 ^ 40 ≡ bias z)
+up-bias (pos n) h = (refl, omega arith)
+up-bias (negsuc n) h = absurd (omega arith)

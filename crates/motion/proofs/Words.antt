@@ -9,7 +9,7 @@ use lib.IntN.{ℤ, pos, negsuc, negℤ, _*ℤ_, natAbs}
 use lib.Signed.{mag, quotZ, shrZ, mag-shr, ltZ, leZ}
 use mir.Syntax.{Width, w16}
 use mir.Val.{SFits, hbits, toZ, ofZ}
-use Rattle.motion.proofs.Bias.{mag-neg}
+use Rattle.motion.proofs.Bias.{bias, bias-negpos, mag-neg}
 use mir.ValLaws.{toZ-ofZ, toZ-pos, toZ-neg, sfits-le}
 
 pub mag-quot : (z : ℤ) (k : ℕ) → mag (quotZ z (pos k)) ≤ mag z
@@ -34,6 +34,11 @@ module _ {w : Width} {z : ℤ} (f : SFits w z) where
 
   pub shr-word : (m : ℕ) → toZ w (ofZ w (shrZ (toZ w (ofZ w z)) m)) ≡ shrZ z m
   shr-word m = ap (λ (y : ℤ). toZ w (ofZ w (shrZ y m))) (toZ-ofZ w z f) ∙ toZ-ofZ w (shrZ z m) (shr-fits m)
+
+-- the quotient of a 16-bit number by 8
+pub eighth-bounds : (z : ℤ) → SFits w16 z → (2 ^ 40 ≤ bias (quotZ z (pos 8)) + 4096) × (bias (quotZ z (pos 8)) ≤ 2 ^ 40 + 4095)
+eighth-bounds (pos n) f = omega (arith, f .sfits)
+eighth-bounds (negsuc n) f = omega (arith, f .sfits, bias-negpos (suc n / 8) (omega (arith, f .sfits)))
 
 -- a signed test, which the machine makes of bits, is one of the numbers
 module _ (w : Width) {x y : ℤ} (fx : SFits w x) (fy : SFits w y) where

@@ -1,7 +1,7 @@
 -- What a reader must believe of vectors, rate, range, levels and blocks.
+pub mod Limits
 pub mod Vector
 pub mod Rate
-pub mod Limits
 pub mod Range
 pub mod Level
 pub mod Block

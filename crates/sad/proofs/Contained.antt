@@ -11,7 +11,8 @@ use lib.IntN.{ℤ, pos, negsuc, negℤ, natAbs, _+ℤ_, _-ℤ_, +ℤ-assoc, +ℤ
 use lib.Signed.{leZ, quotZ, shrZ, nonNeg}
 use Rattle.motion.specs.declared.level.Level.{Level}
 use Rattle.motion.specs.declared.vector.MotionVector.{MotionVector}
-use Rattle.motion.specs.Limits.{cellSide}
+use Rattle.motion.specs.Limits.{cellSide, vectorLimit}
+use Rattle.motion.specs.Vector.{Near}
 use Rattle.motion.specs.Frame.{Side, Starts, Sized}
 use Rattle.motion.specs.Range.{mvMin, mvMax, clip, rangeOf, within, inRange}
 use Rattle.motion.specs.Block.{planeOf, croppedTo, blockOf}
@@ -26,6 +27,15 @@ pub record Moved (S C P : ℕ) (z : ℤ) : Type 0 where
   pub up : nonNeg z ≡ true
   pub far : natAbs z + C ≤ S + 2 * P
 
+below-by : (m n : ℕ) → leZ (negℤ (pos m)) (negsuc n) ≡ true → suc n ≤ m
+below-by zero n h = absurd (let z : _≡_ {A = ℕ} 0 1 = cc in omega arith)
+below-by (suc m) n h = omega (arith, leb-true n m h)
+
+-- a component between two ends is no larger than they are
+between-ends : (m n k : ℕ) (z : ℤ) → m ≤ k → n ≤ k → within (negℤ (pos m)) z (pos n) ≡ true → natAbs z ≤ k
+between-ends m n k (pos x) hm hn h = omega (arith, leb-true x n (within-parts (negℤ (pos m)) (pos x) (pos n) h .1))
+between-ends m n k (negsuc x) hm hn h = omega (arith, below-by m x (within-parts (negℤ (pos m)) (negsuc x) (pos n) h .0))
+
 up-to : (S C P n : ℕ) {z : ℤ} → z ≡ pos n → n + C ≤ S + 2 * P → Moved S C P z
 up-to S C P n e h =
     subst (Moved S C P) (sym e) (record { up = refl; far = h })
@@ -35,10 +45,6 @@ back-by : (B q P : ℕ) → q ≤ B + P → pos B +ℤ negℤ (pos q) +ℤ pos P
 back-by B q P h =
     +ℤ-assoc (pos B) (negℤ (pos q)) (pos P) ∙ ap (λ (z : ℤ). pos B +ℤ z) (+ℤ-comm (negℤ (pos q)) (pos P))
     ∙ sym (+ℤ-assoc (pos B) (pos P) (negℤ (pos q))) ∙ pos-minus (B + P) q h
-
-below-by : (m n : ℕ) → leZ (negℤ (pos m)) (negsuc n) ≡ true → suc n ≤ m
-below-by zero n h = absurd (let z : _≡_ {A = ℕ} 0 1 = cc in omega arith)
-below-by (suc m) n h = omega (arith, leb-true n m h)
 
 module _ (B S C T P : ℕ) (rim : T + C ≤ P) (fits : B + C ≤ S) where
   pub moved-in : (z : ℤ) → within (negℤ (pos (8 * (B + T + C)))) z (pos (8 * (S - B + T))) ≡ true → Moved S C P (moved B z +ℤ pos P)
@@ -67,6 +73,22 @@ module _ {l : Level} {size W H bx by : ℕ} (sized : Sized l size) (wide : Side 
       moved-in (cellSide * b / k) (side / k) (croppedTo side size b / k) (16 / k) (l .pad) (room fit frame starts) (inside fit frame starts) z
       (subst₂ (λ (low high : ℤ). within low z high ≡ true) (low-is fit frame starts) (high-is fit frame starts) h)
 
+  -- no end is farther than 8,832 from zero
+  axis-near : {side b : ℕ} → Side side → Starts side size b → (z : ℤ) → within (shrZ (clip (mvMin b (croppedTo side size b))) (2 ^ (l .ssdec))) z (shrZ (clip (mvMax (side / cellSide) b (croppedTo side size b))) (2 ^ (l .ssdec))) ≡ true → natAbs z ≤ vectorLimit
+  axis-near {side} {b} frame starts z h =
+      let k = 2 ^ (l .ssdec) in
+      let B = cellSide * b / k in
+      let S = side / k in
+      let C = croppedTo side size b / k in
+      let start = div-le-self (cellSide * b) k in
+      let whole = div-le-self side k in
+      let rim = div-le-self 16 k in
+      let crop = div-le-self (croppedTo side size b) k in
+      between-ends (8 * (B + 16 / k + C)) (8 * (S - B + 16 / k)) vectorLimit z
+      (omega (arith, start, rim, crop, start-inside fit frame starts, frame .most, crop-most fit frame starts .0, fit .largest))
+      (omega (arith, whole, rim, frame .most))
+      (subst₂ (λ (low high : ℤ). within low z high ≡ true) (low-is fit frame starts) (high-is fit frame starts) h)
+
   columns : (v : MotionVector) → inRange (blockOf W H l size bx by .range) v ≡ true → Moved (W / 2 ^ (l .ssdec)) (croppedTo W size bx / 2 ^ (l .ssdec)) (l .pad) (moved (cellSide * bx / 2 ^ (l .ssdec)) (v .col) +ℤ pos (l .pad))
   unfolding blockOf rangeOf
   columns v h = axis wide across (v .col) (in-range-parts (blockOf W H l size bx by .range) v h .0)
@@ -74,6 +96,12 @@ module _ {l : Level} {size W H bx by : ℕ} (sized : Sized l size) (wide : Side 
   lines : (v : MotionVector) → inRange (blockOf W H l size bx by .range) v ≡ true → Moved (H / 2 ^ (l .ssdec)) (croppedTo H size by / 2 ^ (l .ssdec)) (l .pad) (moved (cellSide * by / 2 ^ (l .ssdec)) (v .row) +ℤ pos (l .pad))
   unfolding blockOf rangeOf
   lines v h = axis high down (v .row) (in-range-parts (blockOf W H l size bx by .range) v h .1)
+
+  near : (v : MotionVector) → inRange (blockOf W H l size bx by .range) v ≡ true → Near v
+  unfolding blockOf rangeOf
+  near v h =
+      let both = in-range-parts (blockOf W H l size bx by .range) v h in
+      record { row = axis-near high down (v .row) (both .1); col = axis-near wide across (v .col) (both .0) }
 
   measured : Measured (blockOf W H l size bx by)
   unfolding blockOf planeOf
@@ -96,6 +124,7 @@ module _ {l : Level} {size W H bx by : ℕ} (sized : Sized l size) (wide : Side 
       let b = blockOf W H l size bx by in
       record {
         measured = measured;
+        near = near;
         org =
             subst (λ (s : ℕ). Inside n s (b .stride) (b .w) (b .h)) (sym (sample-is (b .stride) (b .pad) (pos (b .«po_x»)) (pos (b .«po_y»)) refl refl))
             (inside-by (b .«po_x» + b .pad) (b .«po_y» + b .pad) (b .stride) (planeOf W H l .rows) (b .w) (b .h) n

@@ -7,6 +7,7 @@ use lib.Signed.{quotZ, nonNeg}
 use Rattle.motion.specs.declared.block.Block.{Block}
 use Rattle.motion.specs.declared.vector.MotionVector.{MotionVector}
 use Rattle.motion.specs.Limits.{eighths}
+use Rattle.motion.specs.Vector.{Near}
 use Rattle.motion.specs.Range.{inRange}
 use Rattle.sad.specs.Sad.{Inside, largestBlock}
 
@@ -44,9 +45,10 @@ pub record Measured (b : Block) : Type 0 where
   pub wide : b .w ≤ largestBlock
   pub high : b .h ≤ largestBlock
 
--- the block, and the reference block of every vector in its range, lie inside n samples
+-- the block, and the reference block of every vector in its range, lie inside n samples; such vectors keep the vector limit
 pub record Lies (b : Block) (n : ℕ) : Type 0 where
   pub measured : Measured b
+  pub near : (v : MotionVector) → inRange (b .range) v ≡ true → Near v
   pub org : Inside n (orgStart b) (b .stride) (b .w) (b .h)
   pub reaches : (v : MotionVector) → inRange (b .range) v ≡ true → Reaches b v
   pub ref : (v : MotionVector) → inRange (b .range) v ≡ true → Inside n (refStart b v) (b .stride) (b .w) (b .h)

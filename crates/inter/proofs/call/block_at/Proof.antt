@@ -1,4 +1,4 @@
--- `inter::leaves::block_at` meets its contract.
+-- `inter::call::block_at` meets its contract.
 -- Assumes nothing.
 use borrow.Author.Needs.{needs}
 use mathlib.Core.Path.{ap, ap₂, _∙_}
@@ -6,10 +6,10 @@ use Prim.Native.Nat.{ℕ, _≤_}
 use native.Mathlib.Omega.{arith}
 use Rattle.motion.specs.declared.level.Level.{Level}
 use Rattle.motion.specs.Block.{blockOf}
-use Rattle.inter.specs.Leaves.{blockAt}
+use Rattle.inter.specs.Call.{blockAt}
 use Rattle.inter.proofs.RefusalLaws.{accepted, size-bounds, row-bounds}
-use Rattle.inter.proofs.leaves.block_at.Statement.{statement}
-use Rattle.inter.proofs.leaves.block_at.Tie as tie
+use Rattle.inter.proofs.call.block_at.Statement.{statement}
+use Rattle.inter.proofs.call.block_at.Tie as tie
 
 level-of-requires : tie.Need-level-of-requires
 level-of-requires c κs = search needs

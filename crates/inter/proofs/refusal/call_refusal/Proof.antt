@@ -1,0 +1,35 @@
+-- `inter::refusal::call_refusal` meets its contract.
+-- Assumes nothing.
+use borrow.Author.Needs.{needs}
+use borrow.Author.Needs.{needs}
+use mathlib.Core.Path.{sym, ap, _∙_}
+use Prim.Native.Nat.{ℕ}
+use Rattle.inter.specs.Refusal.{_then_, callRefusal}
+use Rattle.inter.proofs.RefusalLaws.{accepted, then-first, then-later}
+use Rattle.inter.proofs.refusal.call_refusal.Statement.{statement}
+use Rattle.inter.proofs.refusal.call_refusal.Tie as tie
+
+block-refusal-requires : tie.Need-block-refusal-requires
+block-refusal-requires c κs = search needs
+
+returns : tie.Need-returns
+unfolding callRefusal
+returns c =
+    let b = c .before .block-refusal in
+    b .ensures ∙ sym (then-first _ _ (λ e. c .if1 .taken (b .ensures ∙ e)))
+
+planes-refusal-requires : tie.Need-planes-refusal-requires
+planes-refusal-requires c κs =
+    let a = c .before .before .before .before .args in
+    let ok = accepted (a .width) (a .height) (a .level) (a .refined) (a .bx) (a .by) (sym (c .before .block-refusal .ensures) ∙ c .if1 .left) in
+    (ok .wide .most, ok .high .most)
+
+returns-2 : tie.Need-returns-2
+unfolding callRefusal
+returns-2 c =
+    let b = c .before .before .block-refusal in
+    c .planes-refusal .ensures ∙ sym (then-later _ _ (sym (b .ensures) ∙ c .before .if1 .left))
+
+pub call-refusal-spec : {M : Type 1} → statement M
+call-refusal-spec =
+    tie.close (tie.spec block-refusal-requires returns planes-refusal-requires returns-2)

@@ -1,0 +1,13 @@
+-- What a call names, and what each vector costs it.
+use Prim.Native.Nat.{ℕ}
+use mathlib.Core.List.{List}
+use Rattle.motion.specs.declared.block.Block.{Block}
+use Rattle.motion.specs.Level.{levelOf}
+use Rattle.motion.specs.Block.{blockOf}
+use Rattle.sad.specs.Cost.{rdAt}
+use Rattle.search.specs.Result.{CostOf}
+use Rattle.inter.specs.Refusal.{sizeOf}
+
+-- the block that a call names by level, refined or not, and cell
+unfoldable pub blockAt : ℕ → ℕ → ℕ → ℕ → ℕ → ℕ → Block
+blockAt width height level refined bx by = blockOf width height (levelOf level) (sizeOf level refined) bx by

@@ -1,0 +1,44 @@
+-- One refinement of a block, round the vector stored in its first cell.
+use Prim.Native.Nat.{ℕ, _+_, _*_, _/_}
+use mathlib.Core.Bool.{Bool, _&&_}
+use mathlib.Core.List.{List}
+use lib.Dec.{ltb}
+use lib.IntN.{ℤ, pos}
+use lib.ListN.{length, getD}
+use Rattle.motion.specs.declared.vector.MotionVector.{MotionVector}
+use Rattle.motion.specs.declared.block.Block.{Block}
+use Rattle.motion.specs.Limits.{cellSide}
+use Rattle.motion.specs.Level.{levelOf}
+use Rattle.sad.specs.Cost.{rdAt}
+use Rattle.search.specs.declared.full.Window.{Window}
+use Rattle.search.specs.Full.{refineWindow, refine}
+use Rattle.inter.specs.declared.found.Found.{Found}
+use Rattle.inter.specs.Found.{foundOf, answer}
+use Rattle.inter.specs.Refusal.{refuse, _then_, callRefusal, gridOk}
+use Rattle.inter.specs.Call.{blockAt}
+
+-- the grid is row by row, W/4 cells each
+unfoldable pub cellAt : ℕ → ℕ → ℕ → ℕ
+cellAt width bx by = by * (width / cellSide) + bx
+
+-- the vector stored in a cell
+unfoldable pub storedAt : List ℤ → List ℤ → ℕ → MotionVector
+storedAt rows cols i = record { row = getD rows i (pos 0); col = getD cols i (pos 0) }
+
+-- whether a window has at least one row and one column
+unfoldable pub windowOk : Window → Bool
+windowOk window = ltb 0 (window .rows .count) && ltb 0 (window .cols .count)
+
+-- 8: an empty window; else vector, SAD and cost at shift s
+unfoldable pub windowAnswer : Block → List ℕ → List ℕ → ℕ → MotionVector → ℕ → Found
+windowAnswer b cur ref weight stored s =
+    let best = refine (rdAt b cur ref weight) (b .range) stored s in
+    answer (refuse 8 (windowOk (refineWindow (b .range) stored s))) (foundOf (best .mv) (best .rd))
+
+-- numbers 1 to 4, then 5: a grid too short, then 8
+unfoldable pub refineAnswer : ℕ → ℕ → ℕ → ℕ → ℕ → List ℕ → List ℕ → List ℤ → List ℤ → List ℕ → ℕ → Found
+refineAnswer width height level bx by cur ref rows cols sads weight =
+    let b = blockAt width height level 1 bx by in
+    let stored = storedAt rows cols (cellAt width bx by) in
+    answer (callRefusal width height level 1 bx by (length cur) (length ref) then refuse 5 (gridOk width height (length rows) (length cols) (length sads)))
+    (windowAnswer b cur ref weight stored (levelOf level .ssdec))

@@ -1,0 +1,44 @@
+use crate::tally::Tally;
+use libc::STDOUT_FILENO;
+
+fn text(s: &[u8]) {
+    io::write_all(STDOUT_FILENO, s);
+}
+
+fn natural(n: u64) {
+    io::print_decimal(STDOUT_FILENO, n);
+}
+
+pub(crate) fn cannot_read(file: &[u8]) {
+    text(b"cannot read ");
+    text(file);
+    text(b"\n");
+}
+
+pub(crate) fn equal_of(what: &[u8], tally: Tally) {
+    text(what);
+    text(b" ");
+    natural(tally.equal);
+    text(b" of ");
+    natural(tally.read);
+    text(b"\n");
+}
+
+// Line 0 stands for none.
+fn at_line(what: &[u8], name: &[u8], line: u64) {
+    if line == 0 {
+        return;
+    }
+    text(what);
+    text(b" ");
+    text(name);
+    text(b" ");
+    natural(line);
+    text(b"\n");
+}
+
+pub(crate) fn report(name: &[u8], file: &[u8], tally: Tally) {
+    at_line(b"malformed", file, tally.malformed);
+    at_line(b"differs", name, tally.differs);
+    equal_of(name, tally);
+}

@@ -1,0 +1,7 @@
+-- What a reader must believe of the searches.
+pub mod Patterns
+pub mod Result
+pub mod Diamond
+pub mod Hexagon
+pub mod MultiHexagon
+pub mod Full

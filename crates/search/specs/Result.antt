@@ -1,0 +1,36 @@
+-- The best-so-far record, over any cost function.
+use mathlib.Core.Bool.{cond}
+use lib.Dec.{ltb}
+use Prim.Native.Nat.{ℕ, zero, suc}
+use Rattle.motion.specs.declared.vector.MotionVector.{MotionVector}
+use Rattle.motion.specs.Vector.{zeroV}
+use Rattle.sad.specs.declared.rd.MVCandidateRD.{MVCandidateRD}
+use Rattle.sad.specs.Cost.{emptyRd}
+use Rattle.search.specs.declared.patterns.Pattern.{Pattern}
+use Rattle.search.specs.Patterns.{points, pointOf}
+use Rattle.search.specs.declared.result.MotionSearchResult.{MotionSearchResult}
+
+-- what each vector costs
+abbrev pub CostOf : Type 0
+CostOf = MotionVector → MVCandidateRD
+
+-- an empty best: the largest cost, at the zero vector
+unfoldable pub emptyResult : MotionSearchResult
+emptyResult = record { mv = zeroV; rd = emptyRd }
+
+-- "cheaper" means strictly less, so the first of equals stays
+unfoldable pub cheaper : MotionSearchResult → MotionSearchResult → MotionSearchResult
+cheaper best other = cond (ltb (other .rd .cost) (best .rd .cost)) other best
+
+-- one candidate against the best so far
+unfoldable pub tryOne : CostOf → MotionSearchResult → MotionVector → MotionSearchResult
+tryOne rd best v = cheaper best (record { mv = v; rd = rd v })
+
+-- the first n of a row of candidates, in turn
+unfoldable pub tryEach : CostOf → MotionSearchResult → ℕ → (ℕ → MotionVector) → MotionSearchResult
+tryEach rd best zero vs = best
+tryEach rd best (suc n) vs = tryOne rd (tryEach rd best n vs) (vs n)
+
+-- all points of a pattern round a centre, which stays where it is
+unfoldable pub tryPattern : CostOf → MotionSearchResult → Pattern → MotionVector → MotionSearchResult
+tryPattern rd best p centre = tryEach rd best (points p) (pointOf p centre)

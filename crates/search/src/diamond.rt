@@ -1,0 +1,74 @@
+use crate::patterns::Pattern;
+use crate::result::MotionSearchResult;
+use crate::result::try_pattern;
+use motion::block::Block;
+use motion::vector::MotionVector;
+ghost use mathlib.Core.Path.{_≡_};
+ghost use mathlib.Core.Bool.{true};
+ghost use lib.ListN.{length};
+ghost use Prim.Native.Nat.{_≤_};
+ghost use Rattle.motion.specs.Range.{inRange};
+ghost use Rattle.motion.specs.Vector.{Near};
+ghost use Rattle.sad.specs.Plane.{Lies};
+ghost use Rattle.sad.specs.Cost.{rdAt};
+ghost use Rattle.search.specs.Diamond.{diamondBest, diamond};
+
+// The cheapest of the four points round a centre.
+fn diamond_round(
+    b: Block,
+    plane_org: &[u8],
+    plane_ref: &[u8],
+    lambda: u32,
+    center: MotionVector,
+    radius_log2: u32,
+) -> MotionSearchResult
+    requires { ⌜ Lies b (length (now «plane_org»)) × Lies b (length (now «plane_ref»)) ⌝ }
+    requires { ⌜ («radius_log2» ≤ 1) × Near center ⌝ }
+    ensures { λ r. ⌜ r ≡ diamondBest (rdAt b (now («plane_org» .entry)) (now («plane_ref» .entry)) lambda) «radius_log2» center ⌝ }
+{
+    let empty = MotionSearchResult::empty();
+    try_pattern(
+        b,
+        plane_org,
+        plane_ref,
+        lambda,
+        Pattern::Diamond(radius_log2),
+        center,
+        empty,
+    )
+}
+
+// Moves by the diamond, first of radius 2 pixels, then of 1, until it finds no cheaper point.
+pub fn fullpel_diamond_search(
+    b: Block,
+    plane_org: &[u8],
+    plane_ref: &[u8],
+    lambda: u32,
+    start: MotionSearchResult,
+) -> MotionSearchResult
+    requires { ⌜ Lies b (length (now «plane_org»)) × Lies b (length (now «plane_ref»)) ⌝ }
+    requires { ⌜ inRange (b .range) (start .mv) ≡ true ⌝ }
+    ensures { λ r. ⌜ r ≡ diamond (rdAt b (now («plane_org» .entry)) (now («plane_ref» .entry)) lambda) start ⌝ }
+{
+    let mut current = start;
+    let mut diamond_radius_log2: u32 = 1;
+    loop {
+        let best_cand = diamond_round(
+            b,
+            plane_org,
+            plane_ref,
+            lambda,
+            current.mv,
+            diamond_radius_log2,
+        );
+        if best_cand.rd.cost < current.rd.cost {
+            current = best_cand;
+        } else {
+            if diamond_radius_log2 == 0 {
+                break;
+            }
+            diamond_radius_log2 -= 1;
+        }
+    }
+    current
+}

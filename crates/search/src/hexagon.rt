@@ -1,0 +1,150 @@
+use crate::patterns::Pattern;
+use crate::patterns::hexagon_point;
+use crate::result::MotionSearchResult;
+use crate::result::try_pattern;
+use motion::block::Block;
+use motion::vector::MotionVector;
+use sad::rd::get_fullpel_mv_rd;
+ghost use mathlib.Core.Path.{_≡_};
+ghost use mathlib.Core.Bool.{true};
+ghost use lib.ListN.{length};
+ghost use Prim.Native.Nat.{_<_};
+ghost use Rattle.motion.specs.Range.{inRange};
+ghost use Rattle.motion.specs.Vector.{Near};
+ghost use Rattle.sad.specs.Plane.{Lies};
+ghost use Rattle.sad.specs.Cost.{rdAt};
+ghost use Rattle.search.specs.Hexagon.{tryIndex, hexagonSix, hexagonThree, squareRound, hexagon};
+
+// The cheapest point so far of one round, with its index in the hexagon.
+pub struct HexCand {
+    pub idx: usize,
+    pub best: MotionSearchResult,
+}
+
+fn try_index(
+    b: Block,
+    plane_org: &[u8],
+    plane_ref: &[u8],
+    lambda: u32,
+    center: MotionVector,
+    i: usize,
+    cand: HexCand,
+) -> HexCand
+    requires { ⌜ Lies b (length (now «plane_org»)) × Lies b (length (now «plane_ref»)) ⌝ }
+    requires { ⌜ (i < 6) × Near center ⌝ }
+    ensures { λ r. ⌜ r ≡ tryIndex (rdAt b (now («plane_org» .entry)) (now («plane_ref» .entry)) lambda) center cand i ⌝ }
+{
+    let mv = hexagon_point(center, i);
+    let rd = get_fullpel_mv_rd(b, plane_org, plane_ref, lambda, mv);
+    let best = cand.best;
+    if rd.cost < best.rd.cost {
+        HexCand {
+            idx: i,
+            best: MotionSearchResult { mv, rd },
+        }
+    } else {
+        cand
+    }
+}
+
+// All six points.
+fn hexagon_six(
+    b: Block,
+    plane_org: &[u8],
+    plane_ref: &[u8],
+    lambda: u32,
+    center: MotionVector,
+) -> HexCand
+    requires { ⌜ Lies b (length (now «plane_org»)) × Lies b (length (now «plane_ref»)) ⌝ }
+    requires { ⌜ Near center ⌝ }
+    ensures { λ r. ⌜ r ≡ hexagonSix (rdAt b (now («plane_org» .entry)) (now («plane_ref» .entry)) lambda) center ⌝ }
+{
+    let mut cand = HexCand {
+        idx: 0,
+        best: MotionSearchResult::empty(),
+    };
+    let mut i = 0;
+    while i < 6 {
+        cand = try_index(b, plane_org, plane_ref, lambda, center, i, cand);
+        i += 1;
+    }
+    cand
+}
+
+// The three points that the move by `idx` has not tried yet.
+fn hexagon_three(
+    b: Block,
+    plane_org: &[u8],
+    plane_ref: &[u8],
+    lambda: u32,
+    center: MotionVector,
+    idx: usize,
+) -> HexCand
+    requires { ⌜ Lies b (length (now «plane_org»)) × Lies b (length (now «plane_ref»)) ⌝ }
+    requires { ⌜ (idx < 6) × Near center ⌝ }
+    ensures { λ r. ⌜ r ≡ hexagonThree (rdAt b (now («plane_org» .entry)) (now («plane_ref» .entry)) lambda) center idx ⌝ }
+{
+    let none = HexCand {
+        idx,
+        best: MotionSearchResult::empty(),
+    };
+    let first = try_index(b, plane_org, plane_ref, lambda, center, (idx + 5) % 6, none);
+    let second = try_index(b, plane_org, plane_ref, lambda, center, idx, first);
+    try_index(
+        b,
+        plane_org,
+        plane_ref,
+        lambda,
+        center,
+        (idx + 1) % 6,
+        second,
+    )
+}
+
+// One round of the eight square points.
+fn square_refine(
+    b: Block,
+    plane_org: &[u8],
+    plane_ref: &[u8],
+    lambda: u32,
+    current: MotionSearchResult,
+) -> MotionSearchResult
+    requires { ⌜ Lies b (length (now «plane_org»)) × Lies b (length (now «plane_ref»)) ⌝ }
+    requires { ⌜ Near (current .mv) ⌝ }
+    ensures { λ r. ⌜ r ≡ squareRound (rdAt b (now («plane_org» .entry)) (now («plane_ref» .entry)) lambda) current ⌝ }
+{
+    let empty = MotionSearchResult::empty();
+    let best_cand = try_pattern(
+        b,
+        plane_org,
+        plane_ref,
+        lambda,
+        Pattern::Square,
+        current.mv,
+        empty,
+    );
+    current.or_cheaper(best_cand)
+}
+
+// Moves by the hexagon while it finds a cheaper point, then tries the square once.
+pub fn hexagon_search(
+    b: Block,
+    plane_org: &[u8],
+    plane_ref: &[u8],
+    lambda: u32,
+    start: MotionSearchResult,
+) -> MotionSearchResult
+    requires { ⌜ Lies b (length (now «plane_org»)) × Lies b (length (now «plane_ref»)) ⌝ }
+    requires { ⌜ inRange (b .range) (start .mv) ≡ true ⌝ }
+    ensures { λ r. ⌜ r ≡ hexagon (rdAt b (now («plane_org» .entry)) (now («plane_ref» .entry)) lambda) start ⌝ }
+{
+    let mut current = start;
+    let mut cand = hexagon_six(b, plane_org, plane_ref, lambda, current.mv);
+    while cand.best.rd.cost < current.rd.cost {
+        let best = cand.best;
+        let idx = cand.idx;
+        current = best;
+        cand = hexagon_three(b, plane_org, plane_ref, lambda, best.mv, idx);
+    }
+    square_refine(b, plane_org, plane_ref, lambda, current)
+}

@@ -1,0 +1,84 @@
+use crate::patterns::Pattern;
+use crate::patterns::pattern_point;
+use crate::patterns::pattern_points;
+use motion::block::Block;
+use motion::vector::MotionVector;
+use sad::rd::MVCandidateRD;
+use sad::rd::get_fullpel_mv_rd;
+ghost use mathlib.Core.Path.{_≡_};
+ghost use lib.ListN.{length};
+ghost use Rattle.sad.specs.Plane.{Lies};
+ghost use Rattle.sad.specs.Cost.{rdAt};
+ghost use Rattle.motion.specs.Vector.{Near};
+ghost use Rattle.search.specs.Patterns.{Plain};
+ghost use Rattle.search.specs.Result.{emptyResult, cheaper, tryOne, tryPattern};
+
+// The best vector so far, with its cost and sum of absolute differences.
+pub struct MotionSearchResult {
+    pub mv: MotionVector,
+    pub rd: MVCandidateRD,
+}
+
+impl MotionSearchResult {
+    // Dearer than any candidate in range.
+    pub fn empty() -> MotionSearchResult
+        ensures { λ r. ⌜ r ≡ emptyResult ⌝ }
+    {
+        MotionSearchResult {
+            mv: MotionVector { row: 0, col: 0 },
+            rd: MVCandidateRD::empty(),
+        }
+    }
+
+    // The cheaper of two; the first of equals stays.
+    pub fn or_cheaper(self, other: MotionSearchResult) -> MotionSearchResult
+        ensures { λ r. ⌜ r ≡ cheaper self other ⌝ }
+    {
+        if other.rd.cost < self.rd.cost {
+            other
+        } else {
+            self
+        }
+    }
+
+    // Tries a candidate.
+    pub fn try_mv(
+        self,
+        b: Block,
+        plane_org: &[u8],
+        plane_ref: &[u8],
+        lambda: u32,
+        cand_mv: MotionVector,
+    ) -> MotionSearchResult
+        requires { ⌜ Lies b (length (now «plane_org»)) × Lies b (length (now «plane_ref»)) ⌝ }
+        ensures { λ r. ⌜ r ≡ tryOne (rdAt b (now («plane_org» .entry)) (now («plane_ref» .entry)) lambda) self «cand_mv» ⌝ }
+    {
+        let rd = get_fullpel_mv_rd(b, plane_org, plane_ref, lambda, cand_mv);
+        self.or_cheaper(MotionSearchResult { mv: cand_mv, rd })
+    }
+}
+
+// Tries every point of a pattern round a centre that stays.
+pub fn try_pattern(
+    b: Block,
+    plane_org: &[u8],
+    plane_ref: &[u8],
+    lambda: u32,
+    pattern: Pattern,
+    center: MotionVector,
+    current: MotionSearchResult,
+) -> MotionSearchResult
+    requires { ⌜ Lies b (length (now «plane_org»)) × Lies b (length (now «plane_ref»)) ⌝ }
+    requires { ⌜ Plain pattern × Near center ⌝ }
+    ensures { λ r. ⌜ r ≡ tryPattern (rdAt b (now («plane_org» .entry)) (now («plane_ref» .entry)) lambda) current pattern center ⌝ }
+{
+    let n = pattern_points(pattern);
+    let mut best = current;
+    let mut i = 0;
+    while i < n {
+        let cand_mv = pattern_point(pattern, center, i);
+        best = best.try_mv(b, plane_org, plane_ref, lambda, cand_mv);
+        i += 1;
+    }
+    best
+}
