@@ -1,7 +1,6 @@
 -- `search::diamond::diamond_round` meets its contract.
 -- Assumes nothing.
 use borrow.Author.Needs.{needs}
-use borrow.Author.Needs.{needs}
 use mathlib.Core.Path.{ap, _∙_}
 use denote.Ref.{now}
 use Rattle.sad.specs.Cost.{rdAt}

@@ -10,7 +10,7 @@ use Rattle.search.specs.declared.result.MotionSearchResult.{MotionSearch
 use Rattle.search.specs.Diamond.{diamondBest, diamondAt, diamond}
 use Rattle.search.proofs.ResultLaws.{mostCost, Kept}
 use Rattle.search.proofs.DiamondLaws.{kept-move, diamond-moves, diamond-narrows, diamond-stops}
-use Rattle.search.proofs.RangeKept.{Ranged, ranged}
+use Rattle.search.proofs.InRange.{Ranged, ranged}
 use Rattle.search.proofs.diamond.fullpel_diamond_search.Statement.{statement}
 use Rattle.search.proofs.diamond.fullpel_diamond_search.Tie as tie
 

@@ -10,7 +10,7 @@ use Rattle.search.specs.declared.hexagon.HexCand.{HexCand}
 use Rattle.search.specs.Hexagon.{hexagonAt, squareRound, hexagon}
 use Rattle.search.proofs.ResultLaws.{mostCost, Sound, Kept}
 use Rattle.search.proofs.HexagonLaws.{six-small, three-small, sound-six, sound-three, hexagon-moves, hexagon-stops}
-use Rattle.search.proofs.RangeKept.{Ranged, ranged}
+use Rattle.search.proofs.InRange.{Ranged, ranged}
 use Rattle.search.proofs.hexagon.hexagon_search.Statement.{statement}
 use Rattle.search.proofs.hexagon.hexagon_search.Tie as tie
 

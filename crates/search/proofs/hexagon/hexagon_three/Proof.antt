@@ -1,7 +1,6 @@
 -- `search::hexagon::hexagon_three` meets its contract.
 -- Assumes nothing.
 use borrow.Author.Needs.{needs}
-use borrow.Author.Needs.{needs}
 use mathlib.Core.Path.{ap, _∙_}
 use Prim.Native.Nat.{_+_, _%_}
 use denote.Ref.{now}

@@ -8,7 +8,8 @@ use Rattle.search.specs.declared.result.MotionSearchResult.{MotionSearch
 use Rattle.search.specs.Hexagon.{hexagon}
 use Rattle.search.specs.MultiHexagon.{cross, eighthsSquare, rings, multiHexagon}
 use Rattle.search.proofs.ResultLaws.{Kept}
-use Rattle.search.proofs.RangeKept.{Ranged, ranged, kept-cross, kept-eighths, kept-rings}
+use Rattle.search.proofs.InRange.{Ranged, ranged}
+use Rattle.search.proofs.MultiHexagonLaws.{kept-cross, kept-eighths, kept-rings}
 use Rattle.search.proofs.multi_hex.uneven_multi_hex_search.Statement.{statement}
 use Rattle.search.proofs.multi_hex.uneven_multi_hex_search.Tie as tie
 
