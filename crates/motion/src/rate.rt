@@ -3,7 +3,7 @@ ghost use mathlib.Core.Path.{_≡_};
 ghost use lib.IntN.{natAbs};
 ghost use Rattle.motion.specs.Rate.{rate, rateV};
 
-fn magnitude(d: i16) -> u16
+pub fn magnitude(d: i16) -> u16
     ensures { λ r. ⌜ r ≡ natAbs d ⌝ }
 {
     if d < 0 {

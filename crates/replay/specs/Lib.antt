@@ -1,2 +1,3 @@
 -- What the contracts of the program cite.
+pub mod Call
 pub mod Tally

@@ -2,23 +2,25 @@ use crate::cases::Kind;
 use crate::cases::outcome;
 use crate::cases::shape;
 use crate::numbers::Number;
+use crate::numbers::component;
 use crate::numbers::is_component;
 use crate::numbers::number_at;
+use crate::planes::LARGEST_PLANE;
 use crate::tally::Outcome;
 use crate::tally::Tally;
-ghost use Prim.Native.Nat.{_+_, _≤_};
+ghost use Prim.Native.Nat.{_+_, _≤_, _<_};
 ghost use lib.ListN.{length};
 ghost use Rattle.replay.specs.Tally.{Within};
 
 // No kind of case has more columns.
-const COLUMNS: usize = 13;
+const COLUMNS: usize = 14;
 
-// The columns of a line; those from `signed` on and before `unsigned` hold vector components, the others no negative
-// number.
+// How many columns a line has, and where its vectors start: the two columns from there on hold components, and so do
+// those from `other` on; the rest hold no negative number. Where there is one vector, both are the same.
 pub(crate) struct Shape {
     pub(crate) columns: usize,
-    pub(crate) signed: usize,
-    pub(crate) unsigned: usize,
+    pub(crate) vector: usize,
+    pub(crate) other: usize,
 }
 
 // A line's numbers, where it is well formed.
@@ -28,14 +30,29 @@ pub(crate) struct Line {
     pub(crate) size: [u64; COLUMNS],
 }
 
+impl Line {
+    pub(crate) fn component(self, column: usize) -> i16
+        requires { ⌜ column < 14 ⌝ }
+    {
+        component(self.negative[column], self.size[column])
+    }
+}
+
+fn of_vector(column: usize, start: usize) -> bool {
+    if column < start {
+        return false;
+    }
+    column - start < 2
+}
+
 fn fits(n: Number, column: usize, shape: Shape) -> bool {
     if !n.ok {
         return false;
     }
-    if column < shape.signed {
-        return !n.negative;
+    if of_vector(column, shape.vector) {
+        return is_component(n);
     }
-    if column < shape.unsigned {
+    if of_vector(column, shape.other) {
         return is_component(n);
     }
     !n.negative
@@ -75,7 +92,12 @@ fn is_comment(line: &[u8]) -> bool {
     }
 }
 
-fn judged(kind: Kind, line: &[u8]) -> Outcome {
+fn judged(
+    kind: Kind,
+    line: &[u8],
+    cur: &mut [u8; LARGEST_PLANE],
+    reference: &mut [u8; LARGEST_PLANE],
+) -> Outcome {
     if is_comment(line) {
         return Outcome::Comment;
     }
@@ -83,7 +105,7 @@ fn judged(kind: Kind, line: &[u8]) -> Outcome {
     if !numbers.ok {
         return Outcome::Malformed;
     }
-    outcome(kind, numbers)
+    outcome(kind, numbers, cur, reference)
 }
 
 fn line_end(text: &[u8], from: usize) -> usize
@@ -100,14 +122,19 @@ fn line_end(text: &[u8], from: usize) -> usize
     at
 }
 
-pub(crate) fn replayed(kind: Kind, text: &[u8]) -> Tally
+pub(crate) fn replayed(
+    kind: Kind,
+    text: &[u8],
+    cur: &mut [u8; LARGEST_PLANE],
+    reference: &mut [u8; LARGEST_PLANE],
+) -> Tally
     ensures { λ r. ⌜ Within r (length (now (text .entry)) + 1) ⌝ }
 {
     let mut tally = Tally::new();
     let mut from = 0;
     while from < text.len() {
         let to = line_end(text, from);
-        let what = judged(kind, &text[from..to]);
+        let what = judged(kind, &text[from..to], cur, reference);
         tally = tally.counted(what);
         from = to + 1;
     }

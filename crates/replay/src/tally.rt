@@ -88,12 +88,13 @@ impl Tally {
     }
 }
 
-// The tally of all four files.
+// The tally of four files.
 pub(crate) fn sum(a: Tally, b: Tally, c: Tally, d: Tally) -> Tally
     requires { ⌜ Within a (2 ^ 16) ⌝ }
     requires { ⌜ Within b (2 ^ 16) ⌝ }
     requires { ⌜ Within c (2 ^ 16) ⌝ }
     requires { ⌜ Within d (2 ^ 16) ⌝ }
+    ensures { λ r. ⌜ Within r (2 ^ 18) ⌝ }
 {
     a.plus(b).plus(c.plus(d))
 }

@@ -1,4 +1,4 @@
--- `replay::lines::parsed` is safe and ends: a column is below 13.
+-- `replay::lines::parsed` is safe and ends: a column is below 14.
 -- Assumes nothing.
 use Prim.Native.Nat.{_≤_, _-_}
 use native.Mathlib.Omega.{arith}
@@ -6,10 +6,10 @@ use Rattle.replay.proofs.lines.parsed.Statement.{statement}
 use Rattle.replay.proofs.lines.parsed.Tie as tie
 
 abbrev Inv-loop : tie.InvT-loop
-Inv-loop line shape negative₀ size₀ at₀ column₀ ok₀ negative size at column ok = column ≤ 13
+Inv-loop line shape negative₀ size₀ at₀ column₀ ok₀ negative size at column ok = column ≤ 14
 
 abbrev μ-loop : tie.MeasureT-loop
-μ-loop line shape negative₀ size₀ at₀ column₀ ok₀ negative size at column ok = 13 - column
+μ-loop line shape negative₀ size₀ at₀ column₀ ok₀ negative size at column ok = 14 - column
 
 loop-holds : tie.Need-loop-holds Inv-loop μ-loop
 loop-holds c = omega arith
