@@ -1,7 +1,6 @@
 -- `inter::refinement::lockdapple_refine` meets its contract: a call that is not refused reads a cell of the grid, and its blocks lie inside the planes.
 -- Assumes nothing.
 use borrow.Author.Needs.{needs}
-use borrow.Author.Needs.{needs}
 use mathlib.Core.Path.{_≡_, sym, ap, subst, _∙_}
 use Prim.Native.Nat.{ℕ, _+_, _*_, _/_, _≤_, _<_, _^_}
 use native.Mathlib.Nat.{add-mul, mul-comm, mul-le-mul, mul-le-mul-right}

@@ -1,7 +1,6 @@
 -- `inter::refinement::refine_block` meets its contract: a window that is not empty is searched, and 16 bits hold its offsets.
 -- Assumes nothing.
 use borrow.Author.Needs.{needs}
-use borrow.Author.Needs.{needs}
 use borrow.Author.Tests.{lt-ltb}
 use mathlib.Core.Path.{_≡_, refl, sym, ap, subst, _∙_}
 use mathlib.Core.Bool.{Bool, true, false, _&&_}

@@ -1,7 +1,6 @@
 -- `inter::refinement::stored_at` meets its contract.
 -- Assumes nothing.
 use borrow.Author.Needs.{needs}
-use borrow.Author.Needs.{needs}
 use lib.IntN.{pos}
 use lib.ListN.{getD}
 use denote.Ref.{now}

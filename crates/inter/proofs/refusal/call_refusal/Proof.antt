@@ -1,7 +1,6 @@
 -- `inter::refusal::call_refusal` meets its contract.
 -- Assumes nothing.
 use borrow.Author.Needs.{needs}
-use borrow.Author.Needs.{needs}
 use mathlib.Core.Path.{sym, ap, _∙_}
 use Prim.Native.Nat.{ℕ}
 use Rattle.inter.specs.Refusal.{_then_, callRefusal}

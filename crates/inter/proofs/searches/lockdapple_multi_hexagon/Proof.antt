@@ -1,7 +1,6 @@
 -- `inter::searches::lockdapple_multi_hexagon` meets its contract.
 -- Assumes nothing.
 use borrow.Author.Needs.{needs}
-use borrow.Author.Needs.{needs}
 use mathlib.Core.Path.{ap, _∙_}
 use denote.Ref.{now}
 use Rattle.motion.specs.declared.vector.MotionVector.{MotionVector}

@@ -1,7 +1,6 @@
 -- `inter::searches::search_by` meets its contract: each arm is its method's case.
 -- Assumes nothing.
 use borrow.Author.Needs.{needs}
-use borrow.Author.Needs.{needs}
 use mathlib.Core.Path.{sym, ap, _∙_}
 use denote.Ref.{now}
 use Rattle.sad.specs.Cost.{rdAt}

@@ -1,7 +1,6 @@
 -- `inter::searches::single_search` meets its contract: a call that is not refused starts in range, inside its planes.
 -- Assumes nothing.
 use borrow.Author.Needs.{needs}
-use borrow.Author.Needs.{needs}
 use mathlib.Core.Path.{sym, ap, subst, _∙_}
 use lib.ListN.{length}
 use denote.Ref.{now}
