@@ -1,6 +1,6 @@
 //! The cases of each list, one line a case: edges first, then random ones.
 
-use cases::{CONTENTS, Frame, Random, SEEDS, WEIGHTS, block};
+use cases::{Frame, Random, SEEDS, WEIGHTS, block};
 use oracle::{BlockAt, MvRange, Oracle};
 
 /// The seed of every list.
@@ -11,10 +11,13 @@ const RANGES: usize = 100;
 const SADS: usize = 60;
 const CANDIDATES: usize = 100;
 
+/// The contents that the reader repeats, by their numbers.
+const EACH: [usize; 6] = [0, 1, 2, 3, 4, 5];
+
 /// The largest side of a frame with planes, which keeps the reader's buffers small.
 const LARGEST: usize = 136;
 
-fn line(numbers: &[i128]) -> String {
+pub fn line(numbers: &[i128]) -> String {
     let words: Vec<_> = numbers.iter().map(i128::to_string).collect();
     words.join(" ")
 }
@@ -93,16 +96,21 @@ pub fn range() -> Vec<String> {
     blocks.iter().map(answer).collect()
 }
 
-/// A block of a frame with planes: each content in turn, and in turn the
-/// smallest frame, the largest and any.
-fn on_planes(random: &mut Random, case: usize) -> (BlockAt, usize, u64, Oracle) {
-    let mut side = || match case / CONTENTS.len() % 5 {
+/// A block of a frame with planes: `contents` in turn, and in turn the smallest
+/// frame, the largest and any.
+pub fn on_planes(
+    random: &mut Random,
+    case: usize,
+    contents: &[usize],
+    block: fn(&mut Random, usize, usize) -> BlockAt,
+) -> (BlockAt, usize, u64, Oracle) {
+    let mut side = || match case / contents.len() % 5 {
         0 => 8,
         1 => LARGEST,
         _ => 8 * (1 + random.below(LARGEST / 8)),
     };
     let (width, height) = (side(), side());
-    let (content, seed) = (case % CONTENTS.len(), random.word() % SEEDS);
+    let (content, seed) = (contents[case % contents.len()], random.word() % SEEDS);
     let frame = Frame::new(width, height, content, seed);
     (block(random, width, height), content, seed, frame.oracle())
 }
@@ -125,7 +133,7 @@ fn inside(random: &mut Random, case: usize, range: MvRange) -> (i16, i16) {
 pub fn sad() -> Vec<String> {
     let mut random = Random::new(SEED);
     let mut answer = |case| {
-        let (at, content, seed, oracle) = on_planes(&mut random, case);
+        let (at, content, seed, oracle) = on_planes(&mut random, case, &EACH, block);
         let (row, col) = inside(&mut random, case, at.range());
         let sad = oracle.sad(&at, row, col);
         let rest = [
@@ -143,7 +151,7 @@ pub fn sad() -> Vec<String> {
 pub fn candidate() -> Vec<String> {
     let mut random = Random::new(SEED);
     let mut answer = |case: usize| {
-        let (at, content, seed, oracle) = on_planes(&mut random, case);
+        let (at, content, seed, oracle) = on_planes(&mut random, case, &EACH, block);
         let range = at.range();
         let (mut row, mut col) = inside(&mut random, case, range);
         // One case in three is just out of range, at each end in turn.

@@ -2,10 +2,16 @@
 //! no Rust to ask.
 
 mod lists;
+mod searches;
 
 use std::{env, fs, path::Path, process::ExitCode};
 
-use crate::lists::{SEED, candidate, range, rate, sad};
+use oracle::Search;
+
+use crate::{
+    lists::{SEED, candidate, range, rate, sad},
+    searches::{refine, search},
+};
 
 fn text(what: &str, columns: &str, lines: &[String]) -> String {
     format!(
@@ -21,6 +27,11 @@ fn main() -> ExitCode {
         return ExitCode::from(2);
     };
     let block = "width height level refined bx by";
+    let searched = |what: &str, name: Search| {
+        let columns =
+            "width height level bx by content seed row col weight out_row out_col sad cost";
+        text(what, columns, &search(name))
+    };
     let files = [
         (
             "rate.txt",
@@ -48,6 +59,29 @@ fn main() -> ExitCode {
                 "The SAD and the cost of a candidate.",
                 &format!("{block} content seed row col weight sad cost"),
                 &candidate(),
+            ),
+        ),
+        (
+            "diamond.txt",
+            searched("What the diamond search finds.", Search::Diamond),
+        ),
+        (
+            "hexagon.txt",
+            searched("What the hexagon search finds.", Search::Hexagon),
+        ),
+        (
+            "multi_hexagon.txt",
+            searched(
+                "What the uneven multi-hexagon search finds.",
+                Search::UnevenMultiHexagon,
+            ),
+        ),
+        (
+            "refine.txt",
+            text(
+                "What a refinement finds, at its level's shift.",
+                "width height level bx by content seed stored_row stored_col weight out_row out_col sad cost",
+                &refine(),
             ),
         ),
     ];

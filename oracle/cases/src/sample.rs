@@ -1,13 +1,15 @@
 //! What planes hold. Numbers stay below 2^64 and no difference is negative, so
 //! that a Rattle program can repeat every sample.
 
-pub const CONTENTS: [&str; 6] = [
+pub const CONTENTS: [&str; 8] = [
     "flat",
     "gradient",
     "noise",
     "saturated",
     "shifted copy",
     "plateaus",
+    "periodic",
+    "diagonal",
 ];
 
 /// Seeds are below this.
@@ -35,7 +37,20 @@ pub fn sample(content: usize, seed: u64, plane: u64, x: u64, y: u64) -> u8 {
         3 => 0,
         4 if plane == 0 => noise(seed, x + 16, y + 16),
         4 => noise(seed, x + 12 + seed % 9, y + 12 + seed / 9 % 9),
-        _ => 60 * (noise(seed + SEEDS * (plane * (seed % 2)), x / 8, y / 8) % 4),
+        5 => 60 * (noise(seed + SEEDS * (plane * (seed % 2)), x / 8, y / 8) % 4),
+        // Points on both sides of a centre tie.
+        6 => {
+            let (across, down) = (2 + seed % 5, 2 + seed / 5 % 5);
+            let (x, y) = (x + plane * (seed / 25 % 7), y + plane * (seed / 175 % 7));
+            60 * (noise(seed, x % across, y % down) % 4)
+        }
+        // Waves along a diagonal: a step across ties with a step down, or up.
+        _ => {
+            let line = if seed % 2 == 1 { x + 2_048 - y } else { x + y };
+            let half = 4 + seed / 18 % 16;
+            let phase = (line + plane * (seed / 2 % 9)) % (2 * half);
+            13 * phase.min(2 * half - phase)
+        }
     };
     value as u8
 }

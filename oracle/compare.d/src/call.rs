@@ -1,11 +1,11 @@
 //! A call on one block that is lent the two planes of its level and a vector.
 
-use cases::{CONTENTS, Random, SEEDS, WEIGHTS, block, component};
+use cases::{CONTENTS, Random, SEEDS, WEIGHTS};
 use oracle::{BlockAt, PAD};
 
 use crate::{
     kind::Numbers,
-    lend::Lent,
+    lend::LONGER,
     refusal::Asked,
     scenes::{Scene, Setting},
 };
@@ -14,10 +14,10 @@ pub struct Call {
     pub asked: Asked,
     pub content: usize,
     pub seed: u64,
-    /// The planes end at an unreadable page.
+    /// What is lent ends at an unreadable page.
     pub guarded: bool,
     /// Lengths of the current plane and the reference.
-    lens: [usize; 2],
+    pub lens: [usize; 2],
     pub row: i16,
     pub col: i16,
     pub weight: u32,
@@ -32,14 +32,17 @@ fn shift(level: usize) -> usize {
     }
 }
 
-fn length(random: &mut Random, guarded: bool, full: usize) -> usize {
-    let longer = if guarded {
-        0
-    } else {
-        1 + random.below(Lent::LONGER)
-    };
-    let any = random.below(full);
-    random.pick(&[full, full, full + longer, full - 1, any, 0])
+/// The lengths of buffers that must have `full` items each: right in three draws
+/// of four.
+pub fn lengths<const N: usize>(random: &mut Random, guarded: bool, full: usize) -> [usize; N] {
+    if !random.one_in(4) {
+        return [full; N];
+    }
+    [0; N].map(|_| {
+        let longer = if guarded { 0 } else { 1 + random.below(LONGER) };
+        let any = random.below(full);
+        random.pick(&[full, full, full + longer, full - 1, any, 0])
+    })
 }
 
 impl Call {
@@ -60,28 +63,22 @@ impl Call {
         call
     }
 
-    /// A call of any vector and weight that, in three draws of eight or so, has
-    /// numbers or lengths that are wrong or nearly so.
-    pub fn draw(random: &mut Random, setting: &Setting) -> Self {
-        let at = block(random, setting.width, setting.height);
-        let range = at.range();
-        let col = component(random, range.mvx_min, range.mvx_max);
-        let row = component(random, range.mvy_min, range.mvy_max);
-        let mut call = Call::new(random, setting, at, row, col);
-        call.weight = match random.below(6) {
+    /// The call with any weight and, in three draws of eight or so, numbers or
+    /// lengths that are wrong or nearly so.
+    pub fn vary(mut self, random: &mut Random) -> Self {
+        self.weight = match random.below(6) {
             0 => random.word() as u32,
             1 => random.below(1_000) as u32,
+            // A frame run's weight, and the one where most costs tie.
+            2 => 0,
             _ => random.pick(&WEIGHTS),
         };
         for _ in 0..random.pick(&[0, 0, 0, 0, 0, 0, 1, 2]) {
-            call.asked.spoil(random);
+            self.asked.spoil(random);
         }
-        let (guarded, full) = (call.guarded, call.full_len());
-        call.lens = [full; 2];
-        if random.one_in(4) {
-            call.lens = [0; 2].map(|_| length(random, guarded, full));
-        }
-        call
+        let full = self.full_len();
+        self.lens = lengths(random, self.guarded, full);
+        self
     }
 
     /// The frame that the planes are of: the smallest where none is described.
@@ -108,11 +105,6 @@ impl Call {
             cur[s].lend(self.guarded, self.lens[0])?,
             reference[s].lend(self.guarded, self.lens[1])?,
         ])
-    }
-
-    /// Document 01's refusal of numbers 1 to 4; 0 for none.
-    pub fn refusal(&self) -> u32 {
-        self.asked.refusal_with_planes(self.lens)
     }
 
     /// The names of `numbers`.

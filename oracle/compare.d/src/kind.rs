@@ -4,7 +4,14 @@ use cases::Random;
 use oracle::BlockAt;
 
 use crate::{
-    kinds::{candidate::Candidate, range::Range, rate::Rate, sad::Sad},
+    kinds::{
+        candidate::Candidate,
+        range::Range,
+        rate::Rate,
+        refine::Refine,
+        sad::Sad,
+        search::{DIAMOND, HEXAGON, MULTI_HEXAGON},
+    },
     scenes::{Scenes, Setting},
 };
 
@@ -23,7 +30,16 @@ pub trait Kind {
 }
 
 /// Every kind there is.
-pub const KINDS: [&dyn Kind; 4] = [&Rate, &Range, &Sad, &Candidate];
+pub const KINDS: [&dyn Kind; 8] = [
+    &Rate,
+    &Range,
+    &Sad,
+    &Candidate,
+    &DIAMOND,
+    &HEXAGON,
+    &MULTI_HEXAGON,
+    &Refine,
+];
 
 /// Named values, in the order in which they are compared.
 pub type Answer = Vec<(&'static str, i128)>;
@@ -35,7 +51,7 @@ pub struct Outcome {
     /// The refusal that was expected; 0 for none.
     pub refusal: u32,
     pub content: Option<usize>,
-    /// The planes ended at an unreadable page.
+    /// The buffers ended at an unreadable page.
     pub guarded: bool,
     /// The block, where one was worked on.
     pub block: Option<BlockAt>,

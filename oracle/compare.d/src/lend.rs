@@ -1,6 +1,6 @@
-//! Planes as they are lent: among junk, or ending where memory ends.
+//! Buffers as they are lent: among junk, or ending where memory ends.
 
-use std::{ffi::c_void, ptr, slice};
+use std::{ffi::c_void, mem::size_of, ptr, slice};
 
 unsafe extern "C" {
     fn mmap(at: *mut c_void, len: usize, prot: i32, flags: i32, fd: i32, off: i64) -> *mut c_void;
@@ -14,23 +14,23 @@ const PROT_READ_WRITE: i32 = 3;
 const MAP_PRIVATE_ANONYMOUS: i32 = 0x22;
 /// A multiple of every page size in use.
 const PAGE: usize = 65_536;
-/// Junk on either side of a plane that is not at the end of memory.
+/// Junk on either side of a buffer that is not at the end of memory.
 const MARGIN: usize = 4_096;
 
-/// Not 0 and not alike, so that a sample taken from it shows.
-fn junk(i: usize) -> u8 {
-    (i * 167 % 251) as u8 + 3
+/// Not 0 and not alike, so that an item taken from it shows.
+fn junk<T: From<u8>>(i: usize) -> T {
+    T::from((i * 167 % 251) as u8 + 3)
 }
 
 /// Memory whose last byte stands before an unreadable page.
-struct Guarded {
-    start: *mut u8,
+struct Guarded<T> {
+    start: *mut T,
     readable: usize,
 }
 
-impl Guarded {
-    fn new(plane: &[u8]) -> Self {
-        let readable = plane.len().next_multiple_of(PAGE);
+impl<T: Copy + From<u8>> Guarded<T> {
+    fn new(buffer: &[T]) -> Self {
+        let readable = size_of_val(buffer).next_multiple_of(PAGE);
         // SAFETY: a fresh mapping of readable + PAGE bytes, whose last PAGE bytes are only protected.
         unsafe {
             let flags = MAP_PRIVATE_ANONYMOUS;
@@ -43,62 +43,62 @@ impl Guarded {
                 0,
             );
             assert!(map as isize != -1, "no memory");
-            let start = map.cast::<u8>();
-            assert_eq!(mprotect(start.add(readable).cast(), PAGE, PROT_NONE), 0);
-            let bytes = slice::from_raw_parts_mut(start, readable);
-            let (before, end) = bytes.split_at_mut(readable - plane.len());
+            assert_eq!(mprotect(map.byte_add(readable), PAGE, PROT_NONE), 0);
+            let start = map.cast::<T>();
+            let items = slice::from_raw_parts_mut(start, readable / size_of::<T>());
+            let (before, end) = items.split_at_mut(items.len() - buffer.len());
             let near = before.len().saturating_sub(MARGIN);
             before[near..]
                 .iter_mut()
                 .enumerate()
-                .for_each(|(i, b)| *b = junk(i));
-            end.copy_from_slice(plane);
+                .for_each(|(i, item)| *item = junk(i));
+            end.copy_from_slice(buffer);
             Guarded { start, readable }
         }
     }
 
-    fn bytes(&self) -> &[u8] {
-        // SAFETY: these bytes are mapped, readable and written only in `new`.
-        unsafe { slice::from_raw_parts(self.start, self.readable) }
+    fn items(&self) -> &[T] {
+        // SAFETY: these bytes are mapped, readable, any bits are a T, and they are written only in `new`.
+        unsafe { slice::from_raw_parts(self.start, self.readable / size_of::<T>()) }
     }
 }
 
-impl Drop for Guarded {
+impl<T> Drop for Guarded<T> {
     fn drop(&mut self) {
         // SAFETY: the mapping that `new` made, whole.
         unsafe { munmap(self.start.cast(), self.readable + PAGE) };
     }
 }
 
-/// One plane, ready to be lent at any length.
-pub struct Lent {
-    among_junk: Vec<u8>,
-    guarded: Guarded,
-    pub full: usize,
+/// The longest slice that can be lent is this much longer than its buffer.
+pub const LONGER: usize = MARGIN;
+
+/// One buffer of bytes or whole numbers, ready to be lent at any length.
+pub struct Lent<T> {
+    among_junk: Vec<T>,
+    guarded: Guarded<T>,
+    full: usize,
 }
 
-impl Lent {
-    /// The longest slice that can be lent is this much longer than the plane.
-    pub const LONGER: usize = MARGIN;
-
-    pub fn new(plane: &[u8]) -> Self {
-        let mut among_junk: Vec<u8> = (0..plane.len() + 2 * MARGIN).map(junk).collect();
-        among_junk[MARGIN..][..plane.len()].copy_from_slice(plane);
+impl<T: Copy + From<u8>> Lent<T> {
+    pub fn new(buffer: &[T]) -> Self {
+        let mut among_junk: Vec<T> = (0..buffer.len() + 2 * MARGIN).map(junk).collect();
+        among_junk[MARGIN..][..buffer.len()].copy_from_slice(buffer);
         Lent {
             among_junk,
-            guarded: Guarded::new(plane),
-            full: plane.len(),
+            guarded: Guarded::new(buffer),
+            full: buffer.len(),
         }
     }
 
-    /// The first `len` samples among junk; or, guarded, the last `len`, up to
-    /// the unreadable page. None where there are not so many.
-    pub fn lend(&self, guarded: bool, len: usize) -> Option<&[u8]> {
+    /// The first `len` items among junk; or, guarded, the last `len`, up to the
+    /// unreadable page. None where there are not so many.
+    pub fn lend(&self, guarded: bool, len: usize) -> Option<&[T]> {
         if guarded {
-            let bytes = self.guarded.bytes();
-            (len <= self.full).then(|| &bytes[bytes.len() - len..])
+            let items = self.guarded.items();
+            (len <= self.full).then(|| &items[items.len() - len..])
         } else {
-            (len <= self.full + Self::LONGER).then(|| &self.among_junk[MARGIN..][..len])
+            (len <= self.full + LONGER).then(|| &self.among_junk[MARGIN..][..len])
         }
     }
 }

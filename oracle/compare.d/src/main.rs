@@ -2,6 +2,7 @@
 //! every field of their answers.
 
 mod call;
+mod grid;
 mod kind;
 mod kinds;
 mod lend;
@@ -27,7 +28,7 @@ use crate::{
 };
 
 /// Cases in turn that share a frame.
-const CASES_PER_FRAME: usize = 48;
+const CASES_PER_FRAME: usize = 16;
 
 fn usage(why: &str) -> ExitCode {
     eprintln!("compare: {why}");

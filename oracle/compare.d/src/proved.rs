@@ -33,6 +33,23 @@ impl Found {
     };
 }
 
+/// The type of the three single searches.
+pub type Search = unsafe extern "C" fn(
+    *mut Found,
+    usize,
+    usize,
+    usize,
+    usize,
+    usize,
+    *const u8,
+    usize,
+    *const u8,
+    usize,
+    i16,
+    i16,
+    u32,
+);
+
 unsafe extern "C" {
     pub fn lockdapple_rate(row: i16, col: i16) -> u32;
 
@@ -59,6 +76,74 @@ unsafe extern "C" {
         reference_len: usize,
         row: i16,
         col: i16,
+        weight: u32,
+    );
+
+    pub fn lockdapple_diamond(
+        found: *mut Found,
+        width: usize,
+        height: usize,
+        level: usize,
+        bx: usize,
+        by: usize,
+        cur: *const u8,
+        cur_len: usize,
+        reference: *const u8,
+        reference_len: usize,
+        row: i16,
+        col: i16,
+        weight: u32,
+    );
+
+    pub fn lockdapple_hexagon(
+        found: *mut Found,
+        width: usize,
+        height: usize,
+        level: usize,
+        bx: usize,
+        by: usize,
+        cur: *const u8,
+        cur_len: usize,
+        reference: *const u8,
+        reference_len: usize,
+        row: i16,
+        col: i16,
+        weight: u32,
+    );
+
+    pub fn lockdapple_multi_hexagon(
+        found: *mut Found,
+        width: usize,
+        height: usize,
+        level: usize,
+        bx: usize,
+        by: usize,
+        cur: *const u8,
+        cur_len: usize,
+        reference: *const u8,
+        reference_len: usize,
+        row: i16,
+        col: i16,
+        weight: u32,
+    );
+
+    pub fn lockdapple_refine(
+        found: *mut Found,
+        width: usize,
+        height: usize,
+        level: usize,
+        bx: usize,
+        by: usize,
+        cur: *const u8,
+        cur_len: usize,
+        reference: *const u8,
+        reference_len: usize,
+        rows: *const i16,
+        rows_len: usize,
+        cols: *const i16,
+        cols_len: usize,
+        sads: *const u32,
+        sads_len: usize,
         weight: u32,
     );
 }

@@ -1,4 +1,4 @@
-//! Document 01's numbers 1 to 4, written from its table alone.
+//! Document 01's numbers 1 to 5, 8 and 9, written from its text alone.
 
 use cases::Random;
 use oracle::BlockAt;
@@ -111,18 +111,34 @@ impl Asked {
         valid(self.width) && valid(self.height)
     }
 
+    /// The side of an uncropped block, where the level has such blocks.
+    fn block_side(&self) -> Option<usize> {
+        match (self.level, self.refined != 0) {
+            (4, false) => Some(64),
+            (3, false) => Some(32),
+            (2, false) => Some(16),
+            (3, true) => Some(64),
+            (2, true) => Some(32),
+            _ => None,
+        }
+    }
+
+    /// Shift and pad of a level that there is.
+    fn shift_and_pad(&self) -> (usize, usize) {
+        match self.level {
+            4 => (2, 20),
+            3 => (1, 40),
+            _ => (0, 48),
+        }
+    }
+
     /// Numbers 1, 2 and 3; 0 where none applies.
     pub fn refusal(&self) -> u32 {
         if !self.frame_is_valid() {
             return 1;
         }
-        let block = match (self.level, self.refined != 0) {
-            (4, false) => 64,
-            (3, false) => 32,
-            (2, false) => 16,
-            (3, true) => 64,
-            (2, true) => 32,
-            _ => return 2,
+        let Some(block) = self.block_side() else {
+            return 2;
         };
         let starts = |cell: usize, side: usize| cell < side / 4 && (4 * cell).is_multiple_of(block);
         if !starts(self.bx, self.width) || !starts(self.by, self.height) {
@@ -137,14 +153,61 @@ impl Asked {
         if first != 0 {
             return first;
         }
-        let (s, p) = match self.level {
-            4 => (2, 20),
-            3 => (1, 40),
-            _ => (0, 48),
-        };
+        let (s, p) = self.shift_and_pad();
         let (stride, rows) = ((self.width >> s) + 2 * p, (self.height >> s) + 2 * p);
         if lens.iter().any(|&len| len < stride * rows) {
             return 4;
+        }
+        0
+    }
+
+    /// The ends of rows and of columns, of a call that 1 to 3 do not refuse.
+    fn ends(&self) -> [(i64, i64); 2] {
+        let (block, (s, _)) = (self.block_side().unwrap() as i64, self.shift_and_pad());
+        [(self.by, self.height), (self.bx, self.width)].map(|(cell, side)| {
+            let (cell, side) = (cell as i64, side as i64);
+            let cropped = block.min(side - 4 * cell);
+            let min = -32 * cell - 128 - 8 * cropped;
+            let max = 32 * (side / 4 - cell) - 8 * cropped + 128 + 8 * cropped;
+            (min.max(-16_383) >> s, max.min(16_383) >> s)
+        })
+    }
+
+    /// Numbers 1 to 4 and 9 of a single search.
+    pub fn refusal_of_search(&self, lens: [usize; 2], row: i16, col: i16) -> u32 {
+        let first = self.refusal_with_planes(lens);
+        if first != 0 {
+            return first;
+        }
+        let outside = |(v, (min, max)): (i16, (i64, i64))| i64::from(v) < min || i64::from(v) > max;
+        if [row, col].into_iter().zip(self.ends()).any(outside) {
+            return 9;
+        }
+        0
+    }
+
+    /// Numbers 1 to 5 and 8 of one refinement of a stored row and column.
+    pub fn refusal_of_refinement(
+        &self,
+        lens: [usize; 2],
+        grid_lens: [usize; 3],
+        stored: [i16; 2],
+    ) -> u32 {
+        let first = self.refusal_with_planes(lens);
+        if first != 0 {
+            return first;
+        }
+        let cells = (self.width / 4) * (self.height / 4);
+        if grid_lens.iter().any(|&len| len < cells) {
+            return 5;
+        }
+        let (s, _) = self.shift_and_pad();
+        let empty = |(v, (min, max)): (i16, (i64, i64))| {
+            let m = (i64::from(v) >> s) / 8;
+            (m - 1).max(min / 8) > (m + 2).min(max / 8)
+        };
+        if stored.into_iter().zip(self.ends()).any(empty) {
+            return 8;
         }
         0
     }

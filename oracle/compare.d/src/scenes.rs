@@ -28,32 +28,44 @@ impl Setting {
 pub struct Scene {
     pub oracle: Oracle,
     /// Current and reference, each at shift 0, 1, 2.
-    pub lent: [[Lent; 3]; 2],
+    pub lent: [[Lent<u8>; 3]; 2],
 }
 
-/// Keeps the last scene, since many cases in turn are of one frame.
+impl Scene {
+    fn new(setting: Setting) -> Self {
+        let Setting {
+            width,
+            height,
+            content,
+            seed,
+        } = setting;
+        let frame = Frame::new(width, height, content, seed);
+        Scene {
+            oracle: frame.oracle(),
+            lent: frame
+                .planes
+                .each_ref()
+                .map(|p| p.each_ref().map(|v| Lent::new(v))),
+        }
+    }
+}
+
+/// Keeps the last two scenes, since many cases in turn are of one frame, but for
+/// those that describe none and get the smallest.
 #[derive(Default)]
-pub struct Scenes(Option<(Setting, Scene)>);
+pub struct Scenes(Vec<(Setting, Scene)>);
+
+const KEPT: usize = 2;
 
 impl Scenes {
     pub fn get(&mut self, setting: Setting) -> &Scene {
-        if self.0.as_ref().is_none_or(|(of, _)| *of != setting) {
-            let Setting {
-                width,
-                height,
-                content,
-                seed,
-            } = setting;
-            let frame = Frame::new(width, height, content, seed);
-            let scene = Scene {
-                oracle: frame.oracle(),
-                lent: frame
-                    .planes
-                    .each_ref()
-                    .map(|p| p.each_ref().map(|v| Lent::new(v))),
-            };
-            self.0 = Some((setting, scene));
-        }
-        &self.0.as_ref().unwrap().1
+        let known = self.0.iter().position(|(of, _)| *of == setting);
+        let latest = match known {
+            Some(place) => self.0.remove(place),
+            None => (setting, Scene::new(setting)),
+        };
+        self.0.insert(0, latest);
+        self.0.truncate(KEPT);
+        &self.0[0].1
     }
 }

@@ -39,7 +39,7 @@ impl Tally {
         for (content, cases) in CONTENTS.iter().zip(self.contents) {
             println!("content {content}: {cases}");
         }
-        println!("planes that end at an unreadable page: {}", self.guarded);
+        println!("buffers that end at an unreadable page: {}", self.guarded);
         for (number, cases) in &self.refusals {
             println!("refused {number}: {cases}");
         }

@@ -1,26 +1,17 @@
 //! The SAD and the cost of one candidate, and the refusals 1 to 4.
 
-use cases::Random;
+use cases::{Random, block, component};
 
 use crate::{
     call::Call,
     kind::{Answer, Kind, Numbers, Outcome},
+    kinds::found::expected,
     proved,
     refusal::Asked,
     scenes::{Scene, Scenes, Setting},
 };
 
 pub struct Candidate;
-
-pub fn answer(code: u32, row: i16, col: i16, sad: u32, cost: u64) -> Answer {
-    vec![
-        ("code", code.into()),
-        ("row", row.into()),
-        ("col", col.into()),
-        ("sad", sad.into()),
-        ("cost", cost.into()),
-    ]
-}
 
 /// What the proved code answers, or None where the planes cannot be lent so.
 pub fn proved(call: &Call, scene: &Scene) -> Option<Answer> {
@@ -53,7 +44,7 @@ pub fn proved(call: &Call, scene: &Scene) -> Option<Answer> {
             call.weight,
         );
     }
-    Some(answer(got.code, got.row, got.col, got.sad, got.cost))
+    Some(got.answer())
 }
 
 impl Kind for Candidate {
@@ -66,23 +57,22 @@ impl Kind for Candidate {
     }
 
     fn draw(&self, random: &mut Random, setting: &Setting) -> Vec<i128> {
-        Call::draw(random, setting).numbers()
+        let at = block(random, setting.width, setting.height);
+        let range = at.range();
+        let col = component(random, range.mvx_min, range.mvx_max);
+        let row = component(random, range.mvy_min, range.mvy_max);
+        let call = Call::new(random, setting, at, row, col).vary(random);
+        call.numbers()
     }
 
     fn run(&self, numbers: &mut Numbers<'_>, scenes: &mut Scenes) -> Option<Outcome> {
         let call = Call::take(numbers)?;
-        let refusal = call.refusal();
+        let refusal = call.asked.refusal_with_planes(call.lens);
         let scene = scenes.get(call.setting());
         let block = (refusal == 0).then(|| call.asked.block());
-        let expected = match block {
-            None => answer(refusal, 0, 0, 0, 0),
-            Some(at) => {
-                let found = scene.oracle.candidate(&at, call.row, call.col, call.weight);
-                answer(0, found.row, found.col, found.sad, found.cost)
-            }
-        };
+        let found = block.map(|at| scene.oracle.candidate(&at, call.row, call.col, call.weight));
         Some(Outcome {
-            expected,
+            expected: expected(refusal, found),
             proved: proved(&call, scene)?,
             refusal,
             content: Some(call.content),

@@ -2,11 +2,12 @@
 //! taken by the published `get_sad` alone.
 
 use cases::{Random, block};
+use oracle::Found;
 
 use crate::{
     call::Call,
     kind::{Kind, Numbers, Outcome},
-    kinds::candidate::{answer, proved},
+    kinds::{candidate::proved, found::expected},
     scenes::{Scenes, Setting},
 };
 
@@ -38,7 +39,7 @@ impl Kind for Sad {
     fn run(&self, numbers: &mut Numbers<'_>, scenes: &mut Scenes) -> Option<Outcome> {
         let call = Call::take(numbers)?;
         // Only calls that are answered belong to this kind.
-        if call.refusal() != 0 || call.weight != 0 {
+        if call.asked.refusal_with_planes(call.lens) != 0 || call.weight != 0 {
             return None;
         }
         let scene = scenes.get(call.setting());
@@ -51,8 +52,14 @@ impl Kind for Sad {
         }
         let sad = scene.oracle.sad(&at, row, col);
         let cost = 256 * u64::from(sad);
+        let found = Found {
+            row,
+            col,
+            sad,
+            cost,
+        };
         Some(Outcome {
-            expected: answer(0, row, col, sad, cost),
+            expected: expected(0, Some(found)),
             proved: proved(&call, scene)?,
             refusal: 0,
             content: Some(call.content),

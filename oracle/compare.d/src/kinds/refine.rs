@@ -1,0 +1,102 @@
+//! One refinement, and the refusals 1 to 5 and 8. The vector of a call is the
+//! stored one.
+
+use cases::{Random, mostly_between, refined_block, stored_ends};
+
+use crate::{
+    call::Call,
+    grid::LentGrid,
+    kind::{Answer, Kind, Numbers, Outcome},
+    kinds::found::expected,
+    proved,
+    refusal::Asked,
+    scenes::{Scene, Scenes, Setting},
+};
+
+pub struct Refine;
+
+fn proved(call: &Call, scene: &Scene, grid: &LentGrid) -> Option<Answer> {
+    let [cur, reference] = call.planes(scene)?;
+    let (rows, cols, sads) = grid.buffers(call.guarded)?;
+    let Asked {
+        width,
+        height,
+        level,
+        bx,
+        by,
+        ..
+    } = call.asked;
+    let mut got = proved::Found::UNWRITTEN;
+    // SAFETY: planes and buffers are lent with their own lengths.
+    unsafe {
+        proved::lockdapple_refine(
+            &mut got,
+            width,
+            height,
+            level,
+            bx,
+            by,
+            cur.as_ptr(),
+            cur.len(),
+            reference.as_ptr(),
+            reference.len(),
+            rows.as_ptr(),
+            rows.len(),
+            cols.as_ptr(),
+            cols.len(),
+            sads.as_ptr(),
+            sads.len(),
+            call.weight,
+        );
+    }
+    Some(got.answer())
+}
+
+impl Kind for Refine {
+    fn name(&self) -> &'static str {
+        "refine"
+    }
+
+    fn columns(&self) -> Vec<&'static str> {
+        [Call::columns(), LentGrid::COLUMNS.to_vec()].concat()
+    }
+
+    fn draw(&self, random: &mut Random, setting: &Setting) -> Vec<i128> {
+        let at = refined_block(random, setting.width, setting.height);
+        let (range, s) = (at.range(), at.ssdec());
+        let mut stored = |min, max| {
+            let (first, last) = stored_ends(min, max, s);
+            mostly_between(random, first, last)
+        };
+        let col = stored(range.mvx_min, range.mvx_max);
+        let row = stored(range.mvy_min, range.mvy_max);
+        let mut call = Call::new(random, setting, at, row, col).vary(random);
+        // A refinement is not asked for any other block.
+        call.asked.refined = 1;
+        let grid = LentGrid::draw(random, &call);
+        [call.numbers(), grid].concat()
+    }
+
+    fn run(&self, numbers: &mut Numbers<'_>, scenes: &mut Scenes) -> Option<Outcome> {
+        let call = Call::take(numbers)?;
+        if call.asked.refined != 1 {
+            return None;
+        }
+        let grid = LentGrid::take(numbers, &call)?;
+        let stored = [call.row, call.col];
+        let refusal = call
+            .asked
+            .refusal_of_refinement(call.lens, grid.lens, stored);
+        let scene = scenes.get(call.setting());
+        let block = (refusal == 0).then(|| call.asked.block());
+        let found = block.map(|at| scene.oracle.refinement(&at, &grid.cells, call.weight));
+        Some(Outcome {
+            expected: expected(refusal, found),
+            proved: proved(&call, scene, &grid)?,
+            refusal,
+            content: Some(call.content),
+            guarded: call.guarded,
+            block,
+        })
+    }
+}
