@@ -7,7 +7,7 @@ use lib.IntN.{ℤ, pos, negsuc, negℤ}
 use lib.Signed.{shrZ}
 use lib.Pow.{pow-pos}
 use Rattle.motion.specs.declared.level.Level.{Level}
-use Rattle.motion.specs.Limits.{vectorLimit, cellSide, largestSide}
+use Rattle.motion.specs.Limits.{vectorLimit, cellSide}
 use Rattle.motion.specs.Frame.{Side, Starts, Sized, own4, own3, own2, refined3, refined2}
 use Rattle.motion.specs.Range.{mvMin, mvMax, clip}
 use Rattle.motion.specs.Block.{croppedTo}
@@ -29,7 +29,7 @@ fitting own2 = record { shift = omega arith; pads = omega arith; pad = omega ari
 fitting refined3 = record { shift = omega arith; pads = omega arith; pad = omega arith; largest = omega arith; whole = refl; steps = λ n h. omega arith }
 fitting refined2 = record { shift = omega arith; pads = omega arith; pad = omega arith; largest = omega arith; whole = refl; steps = λ n h. omega arith }
 
-multiple : (m q n : ℕ) → n ≡ m * q → n % m ≡ 0
+pub multiple : (m q n : ℕ) → n ≡ m * q → n % m ≡ 0
 multiple m q n e = ap (λ (x : ℕ). x % m) e ∙ mul-mod-right m q
 
 -- a multiple of 8 divides exactly by 1, 2 and 4

@@ -2,8 +2,10 @@
 pub mod Bias
 pub mod Words
 pub mod TestLaws
+pub mod EveryLaws
 pub mod VectorLaws
 pub mod RateLaws
 pub mod RangeLaws
 pub mod LevelLaws
 pub mod AxisLaws
+pub mod BlockLaws

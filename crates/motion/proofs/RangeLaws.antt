@@ -69,3 +69,8 @@ within-parts low x high h = both (leZ low x) (leZ x high) h
 pub in-range-parts : (r : MvRange) (v : MotionVector) → inRange r v ≡ true → (within (r .«mvx_min») (v .col) (r .«mvx_max») ≡ true) × (within (r .«mvy_min») (v .row) (r .«mvy_max») ≡ true)
 unfolding inRange
 in-range-parts r v h = both (within (r .«mvx_min») (v .col) (r .«mvx_max»)) (within (r .«mvy_min») (v .row) (r .«mvy_max»)) h
+
+-- a negative number no lower than −m
+pub below-by : (m n : ℕ) → leZ (negℤ (pos m)) (negsuc n) ≡ true → suc n ≤ m
+below-by zero n h = absurd (let z : _≡_ {A = ℕ} 0 1 = cc in omega arith)
+below-by (suc m) n h = omega (arith, leb-true n m h)

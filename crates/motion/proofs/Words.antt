@@ -1,11 +1,11 @@
 -- What a signed operation of the machine needs and gives, said of the numbers: results fit, and bits read back as the number.
 -- Assumes nothing.
 use mathlib.Core.Path.{_≡_, refl, sym, ap, ap₂, _∙_}
-use Prim.Native.Nat.{ℕ, zero, suc, _+_, _-_, _*_, _/_, _%_, _^_, _≤_, _<_, zero-le}
+use Prim.Native.Nat.{ℕ, zero, suc, _+_, _-_, _*_, _/_, _%_, _^_, _≤_, _<_}
 use native.Mathlib.Nat.{div-le-self, add-mul, mul-pos, zero-lt-suc, mul-add-mod-self-right, mod-eq-of-lt}
 use native.Mathlib.Omega.{arith}
 use lib.Pow.{pow-pos}
-use lib.IntN.{ℤ, pos, negsuc, negℤ, _*ℤ_, natAbs}
+use lib.IntN.{ℤ, pos, negsuc, negℤ, _*ℤ_}
 use lib.Signed.{mag, quotZ, shrZ, mag-shr, ltZ, leZ}
 use mir.Syntax.{Width, w16}
 use mir.Val.{SFits, hbits, toZ, ofZ}

@@ -23,3 +23,11 @@ pub data Sized : Level → ℕ → Type 0 where
   own2 : Sized level2 16
   refined3 : Sized level3 64
   refined2 : Sized level2 32
+
+-- a block of a level's size, at cell (bx, by) of a frame
+pub record Placed (width height : ℕ) (l : Level) (size bx by : ℕ) : Type 0 where
+  pub wide : Side width
+  pub high : Side height
+  pub sized : Sized l size
+  pub across : Starts width size bx
+  pub down : Starts height size by

@@ -1,6 +1,6 @@
 -- The table of levels.
 use Prim.Native.Nat.{ℕ}
-use mathlib.Core.Bool.{Bool, cond}
+use mathlib.Core.Bool.{cond}
 use lib.Dec.{eqb}
 use Rattle.motion.specs.declared.level.Level.{Level}
 

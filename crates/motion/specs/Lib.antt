@@ -1,4 +1,4 @@
--- What a reader must believe of vectors, rate, range, levels and blocks.
+-- What a reader must believe of vectors, rate, range, levels, blocks and superblocks.
 pub mod Limits
 pub mod Vector
 pub mod Rate
@@ -6,3 +6,5 @@ pub mod Range
 pub mod Level
 pub mod Block
 pub mod Frame
+pub mod Superblock
+pub mod Every

@@ -12,6 +12,10 @@ largestSide = 1024
 abbrev pub cellSide : ℕ
 cellSide = 4
 
+-- a superblock is 64 pixels a side
+abbrev pub superblockSide : ℕ
+superblockSide = 64
+
 -- a vector component stays in −16,383..16,383
 abbrev pub vectorLimit : ℕ
 vectorLimit = 16383

@@ -3,6 +3,7 @@ ghost use Prim.Native.Nat.{_<_};
 ghost use Rattle.motion.specs.Vector.{FitsV, plusV, timesV, shrV, shlV, fullpelV, fullpel};
 
 // A motion vector, in eighths of a pixel.
+#[repr(C)]
 pub struct MotionVector {
     pub row: i16,
     pub col: i16,

@@ -2,13 +2,13 @@
 -- stride times rows samples. Assumes nothing.
 use mathlib.Core.Path.{_≡_, refl, sym, ap, subst, subst₂, _∙_}
 use mathlib.Core.Bool.{true}
-use Prim.Native.Nat.{ℕ, zero, suc, _+_, _-_, _*_, _/_, _^_, _≤_, _<_}
+use Prim.Native.Nat.{ℕ, suc, _+_, _-_, _*_, _/_, _^_, _≤_}
 use native.Mathlib.Nat.{add-mul, mul-comm, mul-le-mul-right, div-le-self}
 use native.Mathlib.Omega.{arith}
 use borrow.Author.Tests.{leb-true}
 use lib.Dec.{T}
-use lib.IntN.{ℤ, pos, negsuc, negℤ, natAbs, _+ℤ_, _-ℤ_, +ℤ-assoc, +ℤ-comm}
-use lib.Signed.{leZ, quotZ, shrZ, nonNeg}
+use lib.IntN.{ℤ, pos, negsuc, negℤ, natAbs, _+ℤ_, +ℤ-assoc, +ℤ-comm}
+use lib.Signed.{shrZ, nonNeg}
 use Rattle.motion.specs.declared.level.Level.{Level}
 use Rattle.motion.specs.declared.vector.MotionVector.{MotionVector}
 use Rattle.motion.specs.Limits.{cellSide, vectorLimit}
@@ -16,20 +16,16 @@ use Rattle.motion.specs.Vector.{Near}
 use Rattle.motion.specs.Frame.{Side, Starts, Sized}
 use Rattle.motion.specs.Range.{mvMin, mvMax, clip, rangeOf, within, inRange}
 use Rattle.motion.specs.Block.{planeOf, croppedTo, blockOf}
-use Rattle.motion.proofs.RangeLaws.{pos-minus, within-parts, in-range-parts}
+use Rattle.motion.proofs.RangeLaws.{pos-minus, within-parts, in-range-parts, below-by}
 use Rattle.motion.proofs.AxisLaws.{Fitting, fitting, start-inside, crop-most, room, inside, low-is, high-is}
 use Rattle.sad.specs.Sad.{Inside}
-use Rattle.sad.specs.Plane.{sampleAt, moved, orgStart, refStart, Reaches, Measured, Lies}
+use Rattle.sad.specs.Plane.{moved, orgStart, refStart, Measured, Lies}
 use Rattle.sad.proofs.Places.{sample-is}
 
 -- where a vector's component moves a coordinate to, on an axis of a plane
 pub record Moved (S C P : ℕ) (z : ℤ) : Type 0 where
   pub up : nonNeg z ≡ true
   pub far : natAbs z + C ≤ S + 2 * P
-
-below-by : (m n : ℕ) → leZ (negℤ (pos m)) (negsuc n) ≡ true → suc n ≤ m
-below-by zero n h = absurd (let z : _≡_ {A = ℕ} 0 1 = cc in omega arith)
-below-by (suc m) n h = omega (arith, leb-true n m h)
 
 -- a component between two ends is no larger than they are
 between-ends : (m n k : ℕ) (z : ℤ) → m ≤ k → n ≤ k → within (negℤ (pos m)) z (pos n) ≡ true → natAbs z ≤ k

@@ -2,13 +2,12 @@
 use mathlib.Core.Path.{_≡_, ap}
 use mathlib.Core.Bool.{Bool, true, false, cond}
 use mathlib.Core.List.{List}
-use Prim.Native.Nat.{ℕ, _+_, _-_, _*_, _≤_, _<_, _^_}
+use Prim.Native.Nat.{ℕ, _-_, _*_, _≤_, _<_, _^_}
 use native.Mathlib.Nat.{le-trans, mul-le-mul, mul-le-mul-left, mul-le-mul-right}
 use native.Mathlib.Omega.{arith}
 use Rattle.motion.specs.declared.block.Block.{Block}
 use Rattle.motion.specs.declared.vector.MotionVector.{MotionVector}
 use Rattle.motion.specs.Range.{inRange}
-use Rattle.motion.specs.Rate.{rateV}
 use Rattle.motion.proofs.RateLaws.{rateV-le}
 use Rattle.sad.specs.Sad.{largestBlock}
 use Rattle.sad.specs.Plane.{orgStart, refStart, Measured}
@@ -28,13 +27,20 @@ module _ (b : Block) (cur ref : List ℕ) (weight : ℕ) (v : MotionVector) wher
   unfolding rdAt
   rd-out h = ap (λ (t : Bool). cond t (rdOf weight (sadAt b cur ref v) v) emptyRd) h
 
-  pub sad-most : Measured b → Under 255 cur → Under 255 ref → sadAt b cur ref v ≤ mostSad
+  -- bytes differ by at most 255
+  pub sad-area : Under 255 cur → Under 255 ref → sadAt b cur ref v ≤ 255 * b .w * b .h
   unfolding sadAt
-  sad-most m hc hr =
-      le-trans (block-le 255 cur ref hc hr (orgStart b) (refStart b v) (b .stride) (b .w) (b .h))
-      (mul-le-mul {m₁ = b .h} {n₂ = 255 * largestBlock} (mul-le-mul-left 255 (m .wide)) (m .high))
+  sad-area hc hr = block-le 255 cur ref hc hr (orgStart b) (refStart b v) (b .stride) (b .w) (b .h)
+
+  pub sad-most : Measured b → Under 255 cur → Under 255 ref → sadAt b cur ref v ≤ mostSad
+  sad-most m hc hr = le-trans (sad-area hc hr) (mul-le-mul {m₁ = b .h} {n₂ = 255 * largestBlock} (mul-le-mul-left 255 (m .wide)) (m .high))
 
 -- a cost stays far below the largest u64, which only a vector out of range has
 pub cost-most : (weight sad : ℕ) (v : MotionVector) → weight < 2 ^ 32 → sad < 2 ^ 32 → rdOf weight sad v .cost < 2 ^ 41
 unfolding rdOf
 cost-most weight sad v hw hs = omega (arith, mul-le-mul-right weight (rateV-le v))
+
+-- in range, a block of bytes costs that little
+pub in-range-most : (b : Block) (cur ref : List ℕ) (weight : ℕ) (v : MotionVector) → Measured b → Under 255 cur → Under 255 ref → weight < 2 ^ 32 → inRange (b .range) v ≡ true → rdAt b cur ref weight v .cost < 2 ^ 41
+in-range-most b cur ref weight v m hc hr hw h =
+    rw (rd-in b cur ref weight v h) (cost-most weight (sadAt b cur ref v) v hw (omega (arith, sad-most b cur ref weight v m hc hr)))

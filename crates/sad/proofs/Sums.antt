@@ -1,5 +1,5 @@
 -- Laws of sums of absolute differences: one term more, and the bounds. Assumes nothing.
-use mathlib.Core.Path.{_≡_, refl, sym, ap, _∙_, subst}
+use mathlib.Core.Path.{_≡_, refl, sym, ap}
 use mathlib.Core.List.{List}
 use Prim.Native.Nat.{ℕ, zero, suc, _+_, _-_, _*_, _≤_, _<_, zero-le}
 use native.Mathlib.Nat.{le-suc, le-refl, mul-suc, add-le-add, le-trans, le-of-eq}

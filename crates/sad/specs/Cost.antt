@@ -1,5 +1,5 @@
 -- The cost of a candidate.
-use mathlib.Core.Bool.{Bool, cond}
+use mathlib.Core.Bool.{cond}
 use mathlib.Core.List.{List}
 use Prim.Native.Nat.{ℕ, _+_, _-_, _*_, _^_}
 use Rattle.motion.specs.declared.block.Block.{Block}

@@ -1,10 +1,10 @@
--- No search hands back a cost above the start's. Assumes nothing.
+-- No search hands back a cost above the start's, and no row of candidates one above any of theirs. Assumes nothing.
 use mathlib.Core.Path.{_≡_, refl}
 use mathlib.Core.Bool.{Bool, true, false, cond}
 use Prim.Native.Nat.{ℕ, zero, suc, _+_, _≤_, _<_}
 use native.Mathlib.Nat.{le-refl, le-trans}
 use native.Mathlib.Omega.{arith}
-use borrow.Author.Tests.{ltb-true}
+use borrow.Author.Tests.{ltb-true, ltb-false}
 use lib.Dec.{ltb}
 use Rattle.motion.specs.declared.vector.MotionVector.{MotionVector}
 use Rattle.search.specs.declared.result.MotionSearchResult.{MotionSearchResult}
@@ -25,11 +25,38 @@ pub least-cheaper : (best other : MotionSearchResult) → cheaper best other .rd
 unfolding cheaper
 least-cheaper best other = least-by best other (ltb (other .rd .cost) (best .rd .cost)) refl
 
+-- nor one above the other's
+other-by : (best other : MotionSearchResult) (t : Bool) → ltb (other .rd .cost) (best .rd .cost) ≡ t → cond t other best .rd .cost ≤ other .rd .cost
+other-by best other true e = le-refl (other .rd .cost)
+other-by best other false e = ltb-false (other .rd .cost) (best .rd .cost) e
+
+pub least-other : (best other : MotionSearchResult) → cheaper best other .rd .cost ≤ other .rd .cost
+unfolding cheaper
+least-other best other = other-by best other (ltb (other .rd .cost) (best .rd .cost)) refl
+
+-- one of n + 1 is one of the first n, or the last
+pub last-or : (P : ℕ → Type 0) (k n : ℕ) → k < suc n → (k < n → P k) → P n → P k
+last-or P k n h before last = go (ltb k n) refl
+  where
+    go : (t : Bool) → ltb k n ≡ t → P k
+    go true e = before (ltb-true k n e)
+    go false e = let same : k ≡ n = omega (arith, ltb-false k n e) in rw same last
+
 module _ (rd : CostOf) where
-  least-each : (best : MotionSearchResult) (n : ℕ) (vs : ℕ → MotionVector) → tryEach rd best n vs .rd .cost ≤ best .rd .cost
+  pub least-each : (best : MotionSearchResult) (n : ℕ) (vs : ℕ → MotionVector) → tryEach rd best n vs .rd .cost ≤ best .rd .cost
   unfolding tryEach tryOne
   least-each best zero vs = le-refl (best .rd .cost)
   least-each best (suc n) vs = le-trans (least-cheaper (tryEach rd best n vs) (record { mv = vs n; rd = rd (vs n) })) (least-each best n vs)
+
+  -- no candidate that was tried is cheaper than what is handed back
+  pub least-tried : (best : MotionSearchResult) (n : ℕ) (vs : ℕ → MotionVector) (k : ℕ) → k < n → tryEach rd best n vs .rd .cost ≤ rd (vs k) .cost
+  unfolding tryEach tryOne
+  least-tried best zero vs k h = absurd (omega arith)
+  least-tried best (suc n) vs k h =
+      let before = tryEach rd best n vs in
+      let new : MotionSearchResult = record { mv = vs n; rd = rd (vs n) } in
+      last-or (λ i. cheaper before new .rd .cost ≤ rd (vs i) .cost) k n h
+      (λ less. le-trans (least-cheaper before new) (least-tried best n vs k less)) (least-other before new)
 
   pub least-pattern : (best : MotionSearchResult) (p : Pattern) (centre : MotionVector) → tryPattern rd best p centre .rd .cost ≤ best .rd .cost
   unfolding tryPattern

@@ -8,3 +8,5 @@ pub mod MultiHexagonLaws
 pub mod SpanLaws
 pub mod LeastLaws
 pub mod HandsBack
+pub mod WindowLaws
+pub mod FoundLaws

@@ -3,7 +3,7 @@ use Prim.Native.Nat.{_<_}
 use Rattle.motion.specs.declared.vector.MotionVector.{MotionVector}
 use Rattle.search.specs.declared.result.MotionSearchResult.{MotionSearchResult}
 use Rattle.search.specs.declared.patterns.Pattern.the-variants.{RowLine, ColLine, Eighths, Umh}
-use Rattle.search.specs.Result.{CostOf, tryPattern}
+use Rattle.search.specs.Result.{CostOf}
 use Rattle.search.specs.MultiHexagon.{cross, eighthsSquare, rings, multiHexagon}
 use Rattle.search.proofs.ResultLaws.{mostCost, Kept, kept-pattern}
 use Rattle.search.proofs.HexagonLaws.{kept-hexagon}

@@ -17,7 +17,7 @@ use Rattle.motion.proofs.TestLaws.{both}
 use Rattle.motion.proofs.VectorLaws.{Short, times-short}
 use Rattle.search.specs.declared.patterns.Pattern.{Pattern}
 use Rattle.search.specs.declared.patterns.Pattern.the-variants.{Diamond, Square, RowLine, ColLine, Eighths, Umh}
-use Rattle.search.specs.Patterns.{diamondTable, hexagonTable, squareTable, umhTable, rowTable, colTable, eighthsPlace, offset, points, Plain, Slight}
+use Rattle.search.specs.Patterns.{diamondTable, squareTable, umhTable, rowTable, colTable, eighthsPlace, offset, points, Plain, Slight}
 
 abbrev slight : MotionVector → Bool
 slight v = leb (mag (v .row)) 32 && leb (mag (v .col)) 32

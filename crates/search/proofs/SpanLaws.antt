@@ -1,17 +1,17 @@
 -- Laws of windows: the larger and the smaller of two, how many offsets there are, and that 16 bits hold them. Assumes nothing.
 use mathlib.Core.Path.{_≡_, refl, sym, ap, _∙_}
 use mathlib.Core.Bool.{Bool, true, false, cond}
-use Prim.Native.Nat.{ℕ, zero, suc, _+_, _-_, _*_, _/_, _^_, _≤_, _<_}
+use Prim.Native.Nat.{ℕ, suc, _+_, _-_, _*_, _^_, _≤_, _<_}
 use native.Mathlib.Numerals.{add-one}
 use native.Mathlib.Omega.{arith}
 use borrow.Author.Tests.{leb-true, ltb-true, ltb-false, le-leb}
-use lib.Dec.{leb, ltb}
+use lib.Dec.{ltb}
 use lib.IntN.{ℤ, pos, negsuc, negℤ, natAbs, _+ℤ_, _-ℤ_, _*ℤ_}
-use lib.Signed.{mag, ltZ, leZ, nonNeg, quotZ, shrZ}
+use lib.Signed.{mag, ltZ, quotZ, shrZ}
 use mir.Syntax.{w16}
 use mir.Val.{SFits}
 use Rattle.motion.proofs.Bias.{bias, Small, mag-neg, mag-negℤ, mag-add, small-by, bias-add, bias-minus, leZ-bias, ltZ-bias, up-bias}
-use Rattle.motion.proofs.Words.{shr-fits, quot-fits, eighth-bounds}
+use Rattle.motion.proofs.Words.{shr-fits, eighth-bounds}
 use Rattle.search.specs.declared.full.Span.{Span}
 use Rattle.search.specs.Result.{CostOf, emptyResult}
 use Rattle.search.specs.Full.{larger, smaller, spanCount, spanAt, refineSpan, Spanned, rowOf, windowTo}
@@ -120,25 +120,35 @@ module _ (min max stored : ℤ) (s : ℕ) (fn : SFits w16 min) (fx : SFits w16 m
   pub hi-size : mag (smaller (quotZ (shrZ stored (2 ^ s)) (pos 8) +ℤ pos 2) (quotZ max (pos 8))) ≤ 8192
   hi-size = smaller-is (λ z. mag z ≤ 8192) _ _ (omega (arith, last-size)) (omega (arith, size-by (quotZ max (pos 8)) (eighth-bounds max fx)))
 
-  pub refine-spanned : (k : ℕ) → k < refineSpan min max stored s .count → Spanned (refineSpan min max stored s .lo) k
+  pub lo-fits : SFits w16 (refineSpan min max stored s .lo)
   unfolding refineSpan
-  refine-spanned k h =
+  lo-fits = record { sfits = omega (arith, lo-size) }
+
+  -- every offset that is tried lies from min/8 to max/8
+  pub between : (k : ℕ) → k < refineSpan min max stored s .count → (bias (quotZ min (pos 8)) ≤ bias (refineSpan min max stored s .lo)) × (bias (refineSpan min max stored s .lo) + k ≤ bias (quotZ max (pos 8)))
+  unfolding refineSpan
+  between k h =
       let q = quotZ (shrZ stored (2 ^ s)) (pos 8) in
       let lo = larger (q -ℤ pos 1) (quotZ min (pos 8)) in
       let hi = smaller (q +ℤ pos 2) (quotZ max (pos 8)) in
-      let low = eighth-bounds min fn in
-      let high = eighth-bounds max fx in
-      let qn = size-by (quotZ min (pos 8)) low in
-      let qx = size-by (quotZ max (pos 8)) high in
-      let up = larger-above (q -ℤ pos 1) (quotZ min (pos 8)) (omega (arith, first-size)) (omega arith) in
+      let qn = size-by (quotZ min (pos 8)) (eighth-bounds min fn) in
+      let qx = size-by (quotZ max (pos 8)) (eighth-bounds max fx) in
       let down = smaller-below (q +ℤ pos 2) (quotZ max (pos 8)) (omega (arith, last-size)) (omega arith) in
       let inside = counted lo hi lo-size hi-size k h in
-      let few : k ≤ 8192 = omega (arith, low .0, high .1, up, down, inside) in
-      let sum = bias-add lo (pos k) (omega (arith, lo-size)) (omega arith) in
-      let small : Small (lo +ℤ pos k) = omega (arith, mag-add lo (pos k), lo-size) in
+      (larger-above (q -ℤ pos 1) (quotZ min (pos 8)) (omega (arith, first-size)) (omega arith), omega arith)
+
+  pub refine-spanned : (k : ℕ) → k < refineSpan min max stored s .count → Spanned (refineSpan min max stored s .lo) k
+  refine-spanned k h =
+      let lo = refineSpan min max stored s .lo in
+      let low = eighth-bounds min fn .0 in
+      let high = eighth-bounds max fx .1 in
+      let ends = between k h in
+      let few : k ≤ 8192 = omega arith in
+      let sum = bias-add lo (pos k) (word-small lo-fits) (omega arith) in
+      let small : Small (lo +ℤ pos k) = omega (arith, mag-add lo (pos k), lo-fits .sfits) in
       record {
-        least = leZ-bias (negℤ (pos 4096)) lo (omega arith) (omega (arith, lo-size)) ∙ le-leb (bias (negℤ (pos 4096))) (bias lo) (omega (arith, low .0, up));
-        most = leZ-bias (lo +ℤ pos k) (pos 4095) small (omega arith) ∙ le-leb (bias (lo +ℤ pos k)) (bias (pos 4095)) (omega (arith, sum, inside, down, high .1));
+        least = leZ-bias (negℤ (pos 4096)) lo (omega arith) (word-small lo-fits) ∙ le-leb (bias (negℤ (pos 4096))) (bias lo) (omega arith);
+        most = leZ-bias (lo +ℤ pos k) (pos 4095) small (omega arith) ∙ le-leb (bias (lo +ℤ pos k)) (bias (pos 4095)) (omega arith);
         few = few;
       }
 

@@ -1,7 +1,8 @@
 -- Full search of a window, and the window of a refinement.
 use mathlib.Core.Path.{_≡_}
-use mathlib.Core.Bool.{Bool, true, cond}
-use Prim.Native.Nat.{ℕ, zero, suc, _≤_, _<_, _^_}
+use mathlib.Core.Bool.{Bool, true, cond, _&&_}
+use Prim.Native.Nat.{ℕ, zero, suc, _≤_, _^_}
+use lib.Dec.{ltb}
 use lib.IntN.{ℤ, pos, negℤ, natAbs, _+ℤ_, _-ℤ_, _*ℤ_}
 use lib.Signed.{ltZ, leZ, quotZ, shrZ}
 use Rattle.motion.specs.declared.vector.MotionVector.{MotionVector}
@@ -60,6 +61,10 @@ refineWindow range stored s =
       rows = refineSpan (range .«mvy_min») (range .«mvy_max») (stored .row) s;
       cols = refineSpan (range .«mvx_min») (range .«mvx_max») (stored .col) s;
     }
+
+-- whether a window has at least one row and one column
+unfoldable pub windowOk : Window → Bool
+windowOk window = ltb 0 (window .rows .count) && ltb 0 (window .cols .count)
 
 -- refinement
 unfoldable pub refine : CostOf → MvRange → MotionVector → ℕ → MotionSearchResult

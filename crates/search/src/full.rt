@@ -9,7 +9,7 @@ ghost use lib.ListN.{length};
 ghost use lib.Signed.{mag, quotZ};
 ghost use Rattle.sad.specs.Plane.{Lies};
 ghost use Rattle.sad.specs.Cost.{rdAt};
-ghost use Rattle.search.specs.Full.{Spanned, larger, smaller, spanCount, spanAt, refineSpan, refineWindow, rowOf, fullSearch};
+ghost use Rattle.search.specs.Full.{Spanned, larger, smaller, spanCount, spanAt, refineSpan, refineWindow, windowOk, rowOf, fullSearch};
 
 // So many whole pixels of one axis, from the first.
 pub struct Span {
@@ -21,6 +21,18 @@ pub struct Span {
 pub struct Window {
     pub rows: Span,
     pub cols: Span,
+}
+
+impl Window {
+    // Whether there is anything to search.
+    pub fn ok(self) -> bool
+        ensures { λ r. ⌜ r ≡ windowOk self ⌝ }
+    {
+        if self.rows.count == 0 {
+            return false;
+        }
+        0 < self.cols.count
+    }
 }
 
 fn eighth(component: i16) -> i16

@@ -1,7 +1,6 @@
 -- `motion::level::level_of` meets its contract: the arm taken is the row that the tests pick.
 -- Assumes nothing.
-use borrow.Author.Tests.{eq-eqb, ne-eqb}
-use mathlib.Core.Path.{_≡_, sym}
+use borrow.Author.Tests.{ne-eqb}
 use Rattle.motion.specs.Level.{levelOf}
 use Rattle.motion.proofs.level.level_of.Statement.{statement}
 use Rattle.motion.proofs.level.level_of.Tie as tie

@@ -6,7 +6,6 @@ use native.Mathlib.Omega.{arith}
 use lib.IntN.{pos}
 use mir.Syntax.{w16}
 use mir.ValLaws.{toZ-pos}
-use Rattle.motion.specs.Limits.{vectorLimit}
 use Rattle.motion.proofs.range.clipped.Statement.{statement}
 use Rattle.motion.proofs.range.clipped.Tie as tie
 

@@ -1,7 +1,7 @@
 -- `motion::range::mv_max` meets its contract: the distance above zero is clipped and shifted.
 -- Assumes nothing.
 use borrow.Author.Needs.{needs}
-use mathlib.Core.Path.{_≡_, sym, ap, _∙_}
+use mathlib.Core.Path.{sym, ap, _∙_}
 use Prim.Native.Nat.{_^_}
 use lib.IntN.{ℤ}
 use lib.Signed.{shrZ}

@@ -1,6 +1,5 @@
 -- `sad::rd::compute_mv_rd` meets its contract: a rate of at most 64 times a 32-bit weight leaves room in 64 bits.
 -- Assumes nothing.
-use mathlib.Core.Path.{_≡_, ap}
 use Prim.Native.Nat.{_+_, _*_, _≤_}
 use native.Mathlib.Nat.{mul-le-mul-right}
 use native.Mathlib.Omega.{arith}

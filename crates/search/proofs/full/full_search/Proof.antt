@@ -12,7 +12,7 @@ use mir.ValLaws.{toZ-ofZ}
 use Rattle.motion.proofs.Words.{back}
 use Rattle.sad.specs.Cost.{rdAt}
 use Rattle.search.specs.declared.result.MotionSearchResult.{MotionSearchResult}
-use Rattle.search.specs.Full.{Spanned, spanAt, rowOf, windowTo, fullSearch}
+use Rattle.search.specs.Full.{Spanned, rowOf, windowTo, fullSearch}
 use Rattle.search.proofs.SpanLaws.{window-none, window-more}
 use Rattle.search.proofs.full.full_search.Statement.{statement}
 use Rattle.search.proofs.full.full_search.Tie as tie

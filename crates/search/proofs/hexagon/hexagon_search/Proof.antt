@@ -1,6 +1,5 @@
 -- `search::hexagon::hexagon_search` meets its contract: each turn goes on with what is left of the search.
 -- Assumes nothing.
-use borrow.Author.Needs.{needs}
 use mathlib.Core.Path.{_≡_, refl, sym, ap, subst, _∙_}
 use Prim.Native.Nat.{_≤_, _<_}
 use native.Mathlib.Omega.{arith}

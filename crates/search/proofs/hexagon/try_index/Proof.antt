@@ -1,7 +1,7 @@
 -- `search::hexagon::try_index` meets its contract.
 -- Assumes nothing.
 use borrow.Author.Needs.{needs}
-use mathlib.Core.Path.{_≡_, sym, ap, subst, _∙_}
+use mathlib.Core.Path.{_≡_, sym, ap, _∙_}
 use native.Mathlib.Omega.{arith}
 use denote.Ref.{now}
 use Rattle.sad.specs.declared.rd.MVCandidateRD.{MVCandidateRD}

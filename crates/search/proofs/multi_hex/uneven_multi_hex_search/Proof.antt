@@ -1,10 +1,9 @@
 -- `search::multi_hex::uneven_multi_hex_search` meets its contract: each stage hands on a record in range.
 -- Assumes nothing.
-use mathlib.Core.Path.{_≡_, sym, ap, subst, _∙_}
+use mathlib.Core.Path.{sym, ap, subst, _∙_}
 use native.Mathlib.Omega.{arith}
 use denote.Ref.{now}
 use Rattle.sad.specs.Cost.{rdAt}
-use Rattle.search.specs.declared.result.MotionSearchResult.{MotionSearchResult}
 use Rattle.search.specs.Hexagon.{hexagon}
 use Rattle.search.specs.MultiHexagon.{cross, eighthsSquare, rings, multiHexagon}
 use Rattle.search.proofs.ResultLaws.{Kept}

@@ -2,7 +2,6 @@
 -- Assumes nothing.
 use borrow.Author.Needs.{needs}
 use native.Mathlib.Omega.{arith}
-use Rattle.motion.specs.Vector.{zeroV}
 use Rattle.motion.proofs.VectorLaws.{short-fitsV}
 use Rattle.search.specs.Patterns.{offset}
 use Rattle.search.proofs.PatternLaws.{diamond-short}

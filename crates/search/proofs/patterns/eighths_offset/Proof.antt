@@ -8,8 +8,7 @@ use lib.IntN.{ℤ, pos, _-ℤ_}
 use mir.Syntax.{w16}
 use mir.Val.{SFits, toZ, ofZ}
 use mir.ValLaws.{toZ-ofZ, toZ-pos}
-use Rattle.motion.specs.declared.vector.MotionVector.{MotionVector}
-use Rattle.search.specs.Patterns.{eighthsPlace, offset}
+use Rattle.search.specs.Patterns.{offset}
 use Rattle.search.proofs.PatternLaws.{place-most, place-size}
 use Rattle.search.proofs.patterns.eighths_offset.Statement.{statement}
 use Rattle.search.proofs.patterns.eighths_offset.Tie as tie

@@ -1,7 +1,6 @@
 -- `motion::vector::MotionVector::shl` meets its contract: the bits shifted left are those of the multiple, which fits.
 -- Assumes nothing.
 use borrow.Author.Needs.{needs}
-use lib.IntN.{pos, _*ℤ_}
 use mir.Syntax.{w16}
 use mir.Val.{SFits}
 use Rattle.motion.specs.Vector.{shlV}

@@ -1,7 +1,6 @@
 -- `motion::vector::MotionVector::shr` meets its contract: a shifted component fits where the component does.
 -- Assumes nothing.
 use borrow.Author.Needs.{needs}
-use mathlib.Core.Path.{_≡_}
 use Prim.Native.Nat.{_^_}
 use lib.Signed.{shrZ}
 use mir.Syntax.{w16}
