@@ -1,0 +1,32 @@
+-- `predict::sampled::cells_b` meets its contract.
+-- Assumes nothing.
+use borrow.Author.Needs.{needs}
+use Rattle.predict.specs.Sampled.{cellsB}
+use Rattle.predict.proofs.sampled.cells_b.Statement.{statement}
+use Rattle.predict.proofs.sampled.cells_b.Tie as tie
+
+level-of-requires : tie.Need-level-of-requires
+level-of-requires c κs = search needs
+
+odd-block-requires : tie.Need-odd-block-requires
+odd-block-requires c κs = search needs
+
+odd-block-requires-2 : tie.Need-odd-block-requires-2
+odd-block-requires-2 c κs = search needs
+
+neighbours-requires : tie.Need-neighbours-requires
+neighbours-requires c κs = search needs
+
+returns : tie.Need-returns
+unfolding cellsB
+returns c = cc
+
+pub cells-b-spec : {M : Type 1} → statement M
+cells-b-spec =
+    tie.close
+    (tie.spec
+    level-of-requires
+    odd-block-requires
+    odd-block-requires-2
+    neighbours-requires
+    returns)

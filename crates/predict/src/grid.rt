@@ -1,0 +1,43 @@
+use motion::vector::MotionVector;
+ghost use mathlib.Core.Path.{_≡_};
+ghost use Prim.Native.Nat.{_≤_, _<_};
+ghost use lib.ListN.{length};
+ghost use Rattle.motion.specs.Limits.{largestSide};
+ghost use Rattle.predict.specs.Grid.{gridOf, cellAt, storedAt, statsAt};
+
+// What a cell of the grid holds.
+pub struct MEStats {
+    pub mv: MotionVector,
+    pub normalized_sad: u32,
+}
+
+// The number of the cell at column bx of row by.
+pub fn cell_at(width: usize, bx: usize, by: usize) -> usize
+    requires { ⌜ (width ≤ largestSide) × (bx ≤ largestSide) × (by ≤ largestSide) ⌝ }
+    ensures { λ r. ⌜ r ≡ cellAt width bx by ⌝ }
+{
+    by * (width / 4) + bx
+}
+
+// The vector stored in a cell.
+pub fn stored_at(rows: &[i16], cols: &[i16], i: usize) -> MotionVector
+    requires { ⌜ (i < length (now rows)) × (i < length (now cols)) ⌝ }
+    ensures { λ r. ⌜ r ≡ storedAt (now (rows .entry)) (now (cols .entry)) i ⌝ }
+{
+    MotionVector {
+        row: rows[i],
+        col: cols[i],
+    }
+}
+
+// All that a cell holds.
+pub fn stats_at(rows: &[i16], cols: &[i16], sads: &[u32], i: usize) -> MEStats
+    requires { ⌜ (i < length (now rows)) × (i < length (now cols)) × (i < length (now sads)) ⌝ }
+    ensures { λ r. ⌜ r ≡ statsAt (gridOf (now (rows .entry)) (now (cols .entry)) (now (sads .entry))) i ⌝ }
+{
+    let mv = stored_at(rows, cols, i);
+    MEStats {
+        mv,
+        normalized_sad: sads[i],
+    }
+}
