@@ -1,0 +1,182 @@
+-- What holds of every block that a level searches or refines, and of what its search hands back. Assumes nothing.
+use mathlib.Core.Path.{_≡_, sym, ap, subst, _∙_}
+use mathlib.Core.Bool.{Bool, true, false, cond}
+use mathlib.Core.List.{List}
+use Prim.Native.Nat.{ℕ, _*_, _^_, _≤_, _<_}
+use native.Mathlib.Nat.{le-trans, mul-assoc}
+use native.Mathlib.Omega.{arith}
+use lib.Dec.{ltb, eqb}
+use lib.ListN.{length, getD}
+use Rattle.motion.specs.declared.block.Block.{Block}
+use Rattle.motion.specs.declared.level.Level.{Level}
+use Rattle.motion.specs.declared.vector.MotionVector.{MotionVector}
+use Rattle.motion.specs.Limits.{cellSide, largestSide}
+use Rattle.motion.specs.Vector.{zeroV, FitsV, shlV}
+use Rattle.motion.specs.Range.{inRange}
+use Rattle.motion.specs.Level.{levelOf}
+use Rattle.motion.specs.Frame.{Side, Starts, Sized, own4, own3, own2, refined3, refined2}
+use Rattle.motion.specs.Block.{blockOf}
+use Rattle.motion.proofs.BlockLaws.{zero-in-range, shl-fits, some-columns, some-rows}
+use Rattle.motion.proofs.LevelLaws.{each-level}
+use Rattle.sad.specs.declared.rd.MVCandidateRD.{MVCandidateRD}
+use Rattle.sad.specs.Plane.{Measured, Lies}
+use Rattle.sad.specs.Cost.{rdOf, rdAt}
+use Rattle.sad.proofs.Sums.{Under}
+use Rattle.sad.proofs.Contained.{lies}
+use Rattle.sad.proofs.CostLaws.{rd-in, sad-area}
+use Rattle.search.specs.declared.result.MotionSearchResult.{MotionSearchResult}
+use Rattle.search.specs.Result.{emptyResult, cheaper, tryOne}
+use Rattle.search.proofs.LeastLaws.{least-each, least-tried, least-cheaper, least-diamond, least-multi}
+use Rattle.search.proofs.FoundLaws.{LooseKept, Settled, loose-empty, loose-one, loose-each, loose-cheaper, loose-diamond, loose-multi, settled}
+use Rattle.predict.specs.declared.predictors.MotionEstimationSubsets.{MotionEstimationSubsets}
+use Rattle.predict.specs.Grid.{cells, cellAt}
+use Rattle.predict.proofs.InsideLaws.{cell-inside}
+use Rattle.predict.proofs.SubsetLaws.{Sound}
+use Rattle.estimate.specs.Inputs.{Inputs, Leveled, four, three, two, Ready}
+use Rattle.estimate.specs.Block.{Listed, tryMvs, tryCands, shortSearch, extensiveSearch, fullPixelMe}
+
+-- a level's own size and its refined one are sizes of the table
+pub own-sized : {level : ℕ} → Leveled level → Sized (levelOf level) (levelOf level .«mv_size»)
+unfolding levelOf
+own-sized four = own4
+own-sized three = own3
+own-sized two = own2
+
+pub refined-sized : {level : ℕ} → Leveled level → Sized (levelOf level) (levelOf level .refined)
+unfolding levelOf
+refined-sized four = own4
+refined-sized three = refined3
+refined-sized two = refined2
+
+-- what making a block asks of its level
+pub level-most : (level : ℕ) → (levelOf level .ssdec < 16) × (levelOf level .pad ≤ largestSide) × (levelOf level .«mv_size» ≤ largestSide) × (levelOf level .refined ≤ largestSide)
+level-most level =
+    each-level (λ (l : Level). (l .ssdec < 16) × (l .pad ≤ largestSide) × (l .«mv_size» ≤ largestSide) × (l .refined ≤ largestSide)) (omega arith) (omega arith) (omega arith) level
+
+-- and of its place
+pub place-most : {width height size bx by : ℕ} → Side width → Side height → Starts width size bx → Starts height size by
+    → (cellSide * bx ≤ width) × (width ≤ largestSide) × (cellSide * by ≤ height) × (height ≤ largestSide)
+place-most wide high across down = omega (arith, wide, high, across, down)
+
+-- a block's first cell is one of those that a frame's grid holds
+pub cell-held : {width height size bx by n : ℕ} → Starts width size bx → Starts height size by → cells width height ≤ n → cellAt width bx by < n
+cell-held {width} {height} {size} {bx} {by} across down held = omega (arith, cell-inside width height bx by (across .inside) (down .inside))
+
+-- a sound record's lists are in five slots
+pub listed : {p : MotionEstimationSubsets} → Sound p → Listed p
+listed s = record { b-few = s .b-most; c-few = s .c-most; b-slots = s .b-slots; c-slots = s .c-slots }
+
+-- what saving a result asks: its vector, shifted left, fits, and its SAD is that of a block of bytes
+abbrev pub Saves : Level → Block → MotionSearchResult → Type 0
+Saves l b best =
+    ((l .ssdec < 16) × FitsV (shlV (best .mv) (l .ssdec)))
+    × ((0 < b .w) × (b .w ≤ 64) × (0 < b .h) × (b .h ≤ 64) × (best .rd .sad ≤ 255 * (b .w * b .h)))
+
+-- a block of either size at a cell of the frame
+module _ {i : Inputs} (ready : Ready i) {size bx by : ℕ} (sized : Sized (levelOf (i .level)) size) (across : Starts (i .width) size bx) (down : Starts (i .height) size by) where
+  -- lies in both planes
+  pub block-lies : Lies (blockOf (i .width) (i .height) (levelOf (i .level)) size bx by) (length (i .cur)) × Lies (blockOf (i .width) (i .height) (levelOf (i .level)) size bx by) (length (i .ref))
+  block-lies =
+      (lies sized (ready .wide) (ready .high) across down (length (i .cur)) (ready .cur), lies sized (ready .wide) (ready .high) across down (length (i .ref)) (ready .ref))
+
+  -- has the zero vector in range
+  pub block-zero : inRange (blockOf (i .width) (i .height) (levelOf (i .level)) size bx by .range) zeroV ≡ true
+  block-zero = zero-in-range sized (ready .wide) (ready .high) across down
+
+  -- and of a settled record it saves what fits
+  pub block-saves : {l : Level} {b : Block} {best : MotionSearchResult} → l ≡ levelOf (i .level) → b ≡ blockOf (i .width) (i .height) (levelOf (i .level)) size bx by → Under 255 (i .cur) → Under 255 (i .ref) → Settled (blockOf (i .width) (i .height) (levelOf (i .level)) size bx by) (i .cur) (i .ref) (i .weight) best → Saves l b best
+  unfolding rdOf
+  block-saves {l} {b} {best} e f hc hr s =
+      let here = blockOf (i .width) (i .height) (levelOf (i .level)) size bx by in
+      let m = block-lies .0 .measured in
+      let own = ap (λ (r : MVCandidateRD). r .sad) (s .own ∙ rd-in here (i .cur) (i .ref) (i .weight) (best .mv) (s .in-range)) in
+      let area = sad-area here (i .cur) (i .ref) (i .weight) (best .mv) hc hr in
+      let saves : Saves (levelOf (i .level)) here best = (
+        (level-most (i .level) .0, shl-fits sized (ready .wide) (ready .high) across down (best .mv) (s .in-range)),
+        (
+          some-columns sized (ready .wide) (ready .high) across down,
+          m .wide,
+          some-rows sized (ready .wide) (ready .high) across down,
+          m .high,
+          omega (arith, own, area, mul-assoc 255 (here .w) (here .h)),
+        ),
+      ) in
+      subst (λ (x : Level). Saves x b best) (sym e) (subst (λ (x : Block). Saves (levelOf (i .level)) x best) (sym f) saves)
+
+module _ (b : Block) (cur ref : List ℕ) (weight : ℕ) where
+  -- what a list and the searches make of an empty best is in range, if zero is
+  pub loose-mvs : (best : MotionSearchResult) (mvs : List MotionVector) (count : ℕ) → LooseKept b cur ref weight best → LooseKept b cur ref weight (tryMvs (rdAt b cur ref weight) best mvs count)
+  unfolding tryMvs
+  loose-mvs best mvs count k = loose-each b cur ref weight best count (λ j. getD mvs j zeroV) k
+
+  least-mvs : (best : MotionSearchResult) (mvs : List MotionVector) (count : ℕ) → tryMvs (rdAt b cur ref weight) best mvs count .rd .cost ≤ best .rd .cost
+  unfolding tryMvs
+  least-mvs best mvs count = least-each (rdAt b cur ref weight) best count (λ j. getD mvs j zeroV)
+
+  module _ (zero-in : inRange (b .range) zeroV ≡ true) where
+    pub loose-cands : (mvs : List MotionVector) (count : ℕ) → LooseKept b cur ref weight (tryCands (rdAt b cur ref weight) mvs count)
+    unfolding tryCands
+    loose-cands mvs count =
+        loose-diamond b cur ref weight (tryMvs (rdAt b cur ref weight) emptyResult mvs count) (loose-mvs emptyResult mvs count (loose-empty b cur ref weight zero-in))
+
+    -- levels 3 and 2, before diamond
+    pub loose-short : (p : MotionEstimationSubsets) → LooseKept b cur ref weight (tryMvs (rdAt b cur ref weight) (tryMvs (rdAt b cur ref weight) (tryOne (rdAt b cur ref weight) emptyResult (p .center)) (p .«subset_b») (p .«b_count»)) (p .«subset_c») (p .«c_count»))
+    loose-short p =
+        let rd = rdAt b cur ref weight in
+        let first = tryOne rd emptyResult (p .center) in
+        loose-mvs (tryMvs rd first (p .«subset_b») (p .«b_count»)) (p .«subset_c») (p .«c_count»)
+        (loose-mvs first (p .«subset_b») (p .«b_count») (loose-one b cur ref weight emptyResult (p .center) (loose-empty b cur ref weight zero-in)))
+
+    -- level 4, before uneven multi-hexagon
+    pub loose-extensive : (p : MotionEstimationSubsets) → LooseKept b cur ref weight (cheaper (tryCands (rdAt b cur ref weight) (p .«subset_b») (p .«b_count»)) (tryCands (rdAt b cur ref weight) (p .«subset_c») (p .«c_count»)))
+    loose-extensive p =
+        let rd = rdAt b cur ref weight in
+        loose-cheaper b cur ref weight (tryCands rd (p .«subset_b») (p .«b_count»)) (tryCands rd (p .«subset_c») (p .«c_count»))
+        (loose-cands (p .«subset_b») (p .«b_count»)) (loose-cands (p .«subset_c») (p .«c_count»))
+
+    module _ (m : Measured b) (hc : Under 255 cur) (hr : Under 255 ref) (hw : weight < 2 ^ 32) (p : MotionEstimationSubsets) (s : Sound p) where
+      -- B holds the zero vector
+      zero-tried : (best : MotionSearchResult) → tryMvs (rdAt b cur ref weight) best (p .«subset_b») (p .«b_count») .rd .cost ≤ rdAt b cur ref weight zeroV .cost
+      unfolding tryMvs
+      zero-tried best =
+          let rd = rdAt b cur ref weight in
+          let vs : ℕ → MotionVector = λ j. getD (p .«subset_b») j zeroV in
+          subst (λ (v : MotionVector). tryMvs rd best (p .«subset_b») (p .«b_count») .rd .cost ≤ rd v .cost) (s .zero-there) (least-tried rd best (p .«b_count») vs (s .zero-at) (s .zero-below))
+
+      below-zero : {best : MotionSearchResult} → LooseKept b cur ref weight best → best .rd .cost ≤ rdAt b cur ref weight zeroV .cost → Settled b cur ref weight best
+      below-zero k below = settled b cur ref weight m hc hr hw k zeroV zero-in below
+
+      short-settled : Settled b cur ref weight (shortSearch (rdAt b cur ref weight) p)
+      unfolding shortSearch
+      short-settled =
+          let rd = rdAt b cur ref weight in
+          let first = tryOne rd emptyResult (p .center) in
+          let near = tryMvs rd first (p .«subset_b») (p .«b_count») in
+          let last = tryMvs rd near (p .«subset_c») (p .«c_count») in
+          below-zero (loose-diamond b cur ref weight last (loose-short p))
+          (le-trans (least-diamond rd last) (le-trans (least-mvs near (p .«subset_c») (p .«c_count»)) (zero-tried first)))
+
+      cands-below : tryCands (rdAt b cur ref weight) (p .«subset_b») (p .«b_count») .rd .cost ≤ rdAt b cur ref weight zeroV .cost
+      unfolding tryCands
+      cands-below = le-trans (least-diamond (rdAt b cur ref weight) (tryMvs (rdAt b cur ref weight) emptyResult (p .«subset_b») (p .«b_count»))) (zero-tried emptyResult)
+
+      either : {x y : MotionSearchResult} (t : Bool) → Settled b cur ref weight x → Settled b cur ref weight y → Settled b cur ref weight (cond t x y)
+      either true sx sy = sx
+      either false sx sy = sy
+
+      extensive-settled : Settled b cur ref weight (extensiveSearch (rdAt b cur ref weight) p)
+      unfolding extensiveSearch
+      extensive-settled =
+          let rd = rdAt b cur ref weight in
+          let near = tryCands rd (p .«subset_b») (p .«b_count») in
+          let far = tryCands rd (p .«subset_c») (p .«c_count») in
+          let kept = cheaper near far in
+          let below = le-trans (least-cheaper near far) cands-below in
+          either (ltb (near .rd .sad) (p .threshold)) (below-zero (loose-cands (p .«subset_b») (p .«b_count»)) cands-below)
+          (either (ltb (kept .rd .sad) (p .threshold)) (below-zero (loose-extensive p) below)
+          (below-zero (loose-multi b cur ref weight kept (loose-extensive p)) (le-trans (least-multi rd kept) below)))
+
+      -- at every level a search hands back a vector in range, with its own SAD and cost
+      pub fullPixelMe-settled : (level : ℕ) → Settled b cur ref weight (fullPixelMe (rdAt b cur ref weight) level p)
+      unfolding fullPixelMe
+      fullPixelMe-settled level = either (eqb level 4) extensive-settled short-settled

@@ -1,0 +1,70 @@
+-- `estimate::block::short_search` meets its contract: what the lists leave is in range.
+-- Assumes nothing.
+use borrow.Author.Needs.{needs}
+use mathlib.Core.Path.{_≡_, sym, ap, subst, _∙_}
+use denote.Ref.{now}
+use Rattle.sad.specs.Cost.{rdAt}
+use Rattle.search.specs.declared.result.MotionSearchResult.{MotionSearchResult}
+use Rattle.search.specs.Result.{CostOf, emptyResult, tryOne}
+use Rattle.search.specs.Diamond.{diamond}
+use Rattle.search.proofs.InRange.{Ranged}
+use Rattle.estimate.specs.Block.{tryMvs, shortSearch}
+use Rattle.estimate.proofs.BlockFacts.{loose-short}
+use Rattle.estimate.proofs.block.short_search.Statement.{statement}
+use Rattle.estimate.proofs.block.short_search.Tie as tie
+
+abbrev cost : tie.Start → CostOf
+cost c = rdAt (c .args .b) (now (c .args .cur)) (now (c .args .reference)) (c .args .lambda)
+
+-- the centre, then B
+abbrev near : tie.Start → MotionSearchResult
+near c = tryMvs (cost c) (tryOne (cost c) emptyResult (c .args .p .center)) (c .args .p .«subset_b») (c .args .p .«b_count»)
+
+near-is : (c : tie.After-try-mvs) → c .try-mvs .result ≡ near (c .before .before .before .before .before .before .before)
+near-is c =
+    let entry = c .before .before .before .before .before .before .before in
+    let p = entry .args .p in
+    let first = c .before .try-mv .ensures ∙ ap (λ (m : MotionSearchResult). tryOne (cost entry) m (p .center)) (c .before .before .before .before .empty .ensures) in
+    c .try-mvs .ensures ∙ ap (λ (m : MotionSearchResult). tryMvs (cost entry) m (p .«subset_b») (p .«b_count»)) first
+
+-- then C
+tried : (c : tie.After-try-mvs2) → c .try-mvs2 .result ≡ tryMvs (cost (c .before .before .before .before .before .before .before .before)) (near (c .before .before .before .before .before .before .before .before)) (c .before .before .before .before .before .before .before .before .args .p .«subset_c») (c .before .before .before .before .before .before .before .before .args .p .«c_count»)
+tried c =
+    let entry = c .before .before .before .before .before .before .before .before in
+    let p = entry .args .p in
+    c .try-mvs2 .ensures ∙ ap (λ (m : MotionSearchResult). tryMvs (cost entry) m (p .«subset_c») (p .«c_count»)) (near-is (c .before))
+
+empty-requires : tie.Need-empty-requires
+empty-requires c κs = search needs
+
+try-mv-requires : tie.Need-try-mv-requires
+try-mv-requires c κs = search needs
+
+try-mvs-requires : tie.Need-try-mvs-requires
+try-mvs-requires c κs = search needs
+
+try-mvs-requires-2 : tie.Need-try-mvs-requires-2
+try-mvs-requires-2 c κs = search needs
+
+fullpel-diamond-search-requires : tie.Need-fullpel-diamond-search-requires
+fullpel-diamond-search-requires c κs =
+    let entry = c .before .before .before .before .before .before .before .before in
+    let a = entry .args in
+    let kept = loose-short (a .b) (now (a .cur)) (now (a .reference)) (a .lambda) (entry .pre .1 .1) (a .p) in
+    (entry .pre .0, subst (Ranged (a .b)) (sym (tried c)) (kept .holds .in-range))
+
+returns : tie.Need-returns
+unfolding shortSearch
+returns c =
+    c .fullpel-diamond-search .ensures ∙ ap (diamond (cost (c .before .before .before .before .before .before .before .before .before))) (tried (c .before))
+
+pub short-search-spec : {M : Type 1} → statement M
+short-search-spec =
+    tie.close
+    (tie.spec
+    empty-requires
+    try-mv-requires
+    try-mvs-requires
+    try-mvs-requires-2
+    fullpel-diamond-search-requires
+    returns)

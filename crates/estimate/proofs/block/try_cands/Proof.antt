@@ -1,0 +1,45 @@
+-- `estimate::block::try_cands` meets its contract: what the list leaves is in range.
+-- Assumes nothing.
+use borrow.Author.Needs.{needs}
+use mathlib.Core.Path.{_≡_, sym, ap, subst, _∙_}
+use denote.Ref.{now}
+use Rattle.sad.specs.Cost.{rdAt}
+use Rattle.search.specs.declared.result.MotionSearchResult.{MotionSearchResult}
+use Rattle.search.specs.Result.{CostOf, emptyResult}
+use Rattle.search.specs.Diamond.{diamond}
+use Rattle.search.proofs.InRange.{Ranged}
+use Rattle.search.proofs.FoundLaws.{loose-empty}
+use Rattle.estimate.specs.Block.{tryMvs, tryCands}
+use Rattle.estimate.proofs.BlockFacts.{loose-mvs}
+use Rattle.estimate.proofs.block.try_cands.Statement.{statement}
+use Rattle.estimate.proofs.block.try_cands.Tie as tie
+
+abbrev cost : tie.Start → CostOf
+cost c = rdAt (c .args .b) (now (c .args .cur)) (now (c .args .reference)) (c .args .lambda)
+
+tried : (c : tie.After-try-mvs) → c .try-mvs .result ≡ tryMvs (cost (c .before .before .before .before)) emptyResult (c .before .before .before .before .args .mvs) (c .before .before .before .before .args .count)
+tried c =
+    let entry = c .before .before .before .before in
+    c .try-mvs .ensures ∙ ap (λ (m : MotionSearchResult). tryMvs (cost entry) m (entry .args .mvs) (entry .args .count)) (c .before .empty .ensures)
+
+empty-requires : tie.Need-empty-requires
+empty-requires c κs = search needs
+
+try-mvs-requires : tie.Need-try-mvs-requires
+try-mvs-requires c κs = search needs
+
+fullpel-diamond-search-requires : tie.Need-fullpel-diamond-search-requires
+fullpel-diamond-search-requires c κs =
+    let entry = c .before .before .before .before in
+    let a = entry .args in
+    let first = loose-empty (a .b) (now (a .cur)) (now (a .reference)) (a .lambda) (entry .pre .1 .2) in
+    let kept = loose-mvs (a .b) (now (a .cur)) (now (a .reference)) (a .lambda) emptyResult (a .mvs) (a .count) first in
+    (entry .pre .0, subst (Ranged (a .b)) (sym (tried c)) (kept .holds .in-range))
+
+returns : tie.Need-returns
+unfolding tryCands
+returns c = c .fullpel-diamond-search .ensures ∙ ap (diamond (cost (c .before .before .before .before .before))) (tried (c .before))
+
+pub try-cands-spec : {M : Type 1} → statement M
+try-cands-spec =
+    tie.close (tie.spec empty-requires try-mvs-requires fullpel-diamond-search-requires returns)

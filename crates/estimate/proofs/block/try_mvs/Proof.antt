@@ -1,0 +1,77 @@
+-- `estimate::block::try_mvs` meets its contract: after k turns the best is that of k vectors.
+-- Assumes nothing.
+use mathlib.Core.Path.{_≡_, sym, ap, _∙_}
+use Prim.Native.Nat.{ℕ, _-_, _≤_}
+use native.Mathlib.Omega.{arith}
+use lib.ListN.{getD}
+use denote.Ref.{now}
+use Rattle.motion.specs.declared.vector.MotionVector.{MotionVector}
+use Rattle.motion.specs.Vector.{zeroV}
+use Rattle.sad.specs.Cost.{rdAt}
+use Rattle.search.specs.declared.result.MotionSearchResult.{MotionSearchResult}
+use Rattle.search.specs.Result.{tryOne, tryEach}
+use Rattle.search.proofs.ResultLaws.{each-none, each-more}
+use Rattle.estimate.specs.Block.{tryMvs}
+use Rattle.estimate.proofs.block.try_mvs.Statement.{statement}
+use Rattle.estimate.proofs.block.try_mvs.Tie as tie
+
+abbrev Inv-loop : tie.InvT-loop
+Inv-loop b cur reference lambda count mvs best₀ k₀ best k =
+    (k ≤ count) × (best ≡ tryEach (rdAt b cur reference lambda) best₀ k (λ j. getD mvs j zeroV))
+
+abbrev μ-loop : tie.MeasureT-loop
+μ-loop b cur reference lambda count mvs best₀ k₀ best k = count - k
+
+loop-holds : tie.Need-loop-holds Inv-loop μ-loop
+loop-holds c =
+    let a = c .before .before .args in
+    let vs : ℕ → MotionVector = λ j. getD (a .t6) j zeroV in
+    (omega arith, sym (each-none (rdAt (a .b) (now (a .cur)) (now (a .reference)) (a .lambda)) (a .current) vs))
+
+mul-try-mv : tie.Need-mul-try-mv Inv-loop μ-loop
+mul-try-mv c = omega arith
+
+array-copy-out-try-mv : tie.Need-array-copy-out-try-mv Inv-loop μ-loop
+array-copy-out-try-mv c = omega arith
+
+try-mv-requires : tie.Need-try-mv-requires Inv-loop μ-loop
+try-mv-requires c κs = c .before .before .before .before .before .pre .0
+
+add-k : tie.Need-add-k Inv-loop μ-loop
+add-k c = omega arith
+
+loop-less : tie.Need-loop-less Inv-loop μ-loop
+loop-less c = omega arith
+
+loop-again : tie.Need-loop-again Inv-loop μ-loop
+loop-again c =
+    let at = c .before .before .before in
+    let a = at .before .before .before .args in
+    let rd = rdAt (a .b) (now (a .cur)) (now (a .reference)) (a .lambda) in
+    let vs : ℕ → MotionVector = λ j. getD (a .t6) j zeroV in
+    (omega arith, c .try-mv .ensures ∙ ap (λ (m : MotionSearchResult). tryOne rd m (vs (at .loop .k))) (at .loop .inv .1) ∙ sym (each-more rd (a .current) (at .loop .k) vs))
+
+returns : tie.Need-returns Inv-loop μ-loop
+unfolding tryMvs
+returns c =
+    let at = c .before in
+    let a = at .before .before .before .args in
+    let rd = rdAt (a .b) (now (a .cur)) (now (a .reference)) (a .lambda) in
+    let vs : ℕ → MotionVector = λ j. getD (a .t6) j zeroV in
+    let done : at .loop .k ≡ a .count = omega arith in
+    at .loop .inv .1 ∙ ap (λ (n : ℕ). tryEach rd (a .current) n vs) done
+
+pub try-mvs-spec : {M : Type 1} → statement M
+try-mvs-spec =
+    tie.close
+    (tie.spec
+    Inv-loop
+    μ-loop
+    loop-holds
+    mul-try-mv
+    array-copy-out-try-mv
+    try-mv-requires
+    add-k
+    loop-less
+    loop-again
+    returns)

@@ -1,0 +1,54 @@
+-- What a block, a step and a level work with besides the grid.
+use mathlib.Core.Path.{_≡_}
+use mathlib.Core.Bool.{Bool, true}
+use mathlib.Core.List.{List}
+use Prim.Native.Nat.{ℕ, _*_, _≤_}
+use lib.ListN.{length}
+use Rattle.motion.specs.Frame.{Side}
+use Rattle.motion.specs.Level.{levelOf}
+use Rattle.motion.specs.Block.{planeOf}
+use Rattle.predict.specs.Grid.{Grid, Held}
+
+-- the frame, the level, the current and the reference plane of that level, and the weight
+pub record Inputs : Type 0 where
+  pub width : ℕ
+  pub height : ℕ
+  pub level : ℕ
+  pub cur : List ℕ
+  pub ref : List ℕ
+  pub weight : ℕ
+
+abbrev pub inputsOf : ℕ → ℕ → ℕ → List ℕ → List ℕ → ℕ → Inputs
+inputsOf width height level cur ref weight =
+    record { width = width; height = height; level = level; cur = cur; ref = ref; weight = weight }
+
+-- a previous frame's grid, or its absence
+pub record Previous : Type 0 where
+  pub present : Bool
+  pub grid : Grid
+
+abbrev pub previousOf : Bool → Grid → Previous
+previousOf present grid = record { present = present; grid = grid }
+
+-- the levels
+pub data Leveled : ℕ → Type 0 where
+  four : Leveled 4
+  three : Leveled 3
+  two : Leveled 2
+
+-- a plane of a level is no shorter than stride times rows
+abbrev pub PlaneHeld : ℕ → ℕ → ℕ → List ℕ → Type 0
+PlaneHeld width height level plane =
+    planeOf width height (levelOf level) .stride * planeOf width height (levelOf level) .rows ≤ length plane
+
+-- inputs that no test refuses
+pub record Ready (i : Inputs) : Type 0 where
+  pub wide : Side (i .width)
+  pub high : Side (i .height)
+  pub leveled : Leveled (i .level)
+  pub cur : PlaneHeld (i .width) (i .height) (i .level) (i .cur)
+  pub ref : PlaneHeld (i .width) (i .height) (i .level) (i .ref)
+
+-- a previous grid that is said to be present holds the frame's cells
+abbrev pub HeldIf : ℕ → ℕ → Previous → Type 0
+HeldIf width height p = p .present ≡ true → Held width height (p .grid)

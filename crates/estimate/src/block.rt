@@ -1,0 +1,252 @@
+use motion::block::Block;
+use motion::block::block_of;
+use motion::level::level_of;
+use motion::vector::MotionVector;
+use predict::grid::MEStats;
+use predict::grid::cell_at;
+use predict::grid::stored_at;
+use predict::predictors::MotionEstimationSubsets;
+use predict::predictors::get_subset_predictors;
+use search::diamond::fullpel_diamond_search;
+use search::full::Window;
+use search::full::full_search;
+use search::full::refine_window;
+use search::multi_hex::uneven_multi_hex_search;
+use search::result::MotionSearchResult;
+ghost use mathlib.Core.Path.{_≡_};
+ghost use mathlib.Core.Bool.{true};
+ghost use Prim.Native.Nat.{_*_, _≤_, _<_};
+ghost use lib.ListN.{length};
+ghost use Rattle.motion.specs.Limits.{largestSide};
+ghost use Rattle.motion.specs.Vector.{zeroV, FitsV, shlV};
+ghost use Rattle.motion.specs.Range.{inRange};
+ghost use Rattle.motion.specs.Level.{levelOf};
+ghost use Rattle.motion.specs.Frame.{Side, Starts};
+ghost use Rattle.sad.specs.Plane.{Lies};
+ghost use Rattle.sad.specs.Cost.{rdAt};
+ghost use Rattle.search.specs.Full.{windowOk};
+ghost use Rattle.predict.specs.Grid.{Held, cells, cellAt, gridOf};
+ghost use Rattle.predict.specs.Slots.{slots};
+ghost use Rattle.estimate.specs.Inputs.{Ready, Leveled, HeldIf, inputsOf, previousOf};
+ghost use Rattle.estimate.specs.Block.{Listed, tryMvs, shortSearch, tryCands, extensiveSearch, fullPixelMe, statsOf, estimateMotion, firstStored, windowAt, refineMotion};
+
+// Tries the vectors of a list, in turn.
+fn try_mvs(
+    b: Block,
+    cur: &[u8],
+    reference: &[u8],
+    lambda: u32,
+    current: MotionSearchResult,
+    mvs: [MotionVector; 5],
+    count: usize,
+) -> MotionSearchResult
+    requires { ⌜ Lies b (length (now cur)) × Lies b (length (now reference)) ⌝ }
+    requires { ⌜ (count ≤ slots) × (length mvs ≡ slots) ⌝ }
+    ensures { λ r. ⌜ r ≡ tryMvs (rdAt b (now (cur .entry)) (now (reference .entry)) lambda) current mvs count ⌝ }
+{
+    let mut best = current;
+    let mut k = 0;
+    while k < count {
+        best = best.try_mv(b, cur, reference, lambda, mvs[k]);
+        k += 1;
+    }
+    best
+}
+
+// A list and diamond, from an empty best.
+fn try_cands(
+    b: Block,
+    cur: &[u8],
+    reference: &[u8],
+    lambda: u32,
+    mvs: [MotionVector; 5],
+    count: usize,
+) -> MotionSearchResult
+    requires { ⌜ Lies b (length (now cur)) × Lies b (length (now reference)) ⌝ }
+    requires { ⌜ (count ≤ slots) × (length mvs ≡ slots) × (inRange (b .range) zeroV ≡ true) ⌝ }
+    ensures { λ r. ⌜ r ≡ tryCands (rdAt b (now (cur .entry)) (now (reference .entry)) lambda) mvs count ⌝ }
+{
+    let empty = MotionSearchResult::empty();
+    let best = try_mvs(b, cur, reference, lambda, empty, mvs, count);
+    fullpel_diamond_search(b, cur, reference, lambda, best)
+}
+
+// Levels 3 and 2: the cheapest predictor, and diamond.
+fn short_search(
+    b: Block,
+    cur: &[u8],
+    reference: &[u8],
+    lambda: u32,
+    p: MotionEstimationSubsets,
+) -> MotionSearchResult
+    requires { ⌜ Lies b (length (now cur)) × Lies b (length (now reference)) ⌝ }
+    requires { ⌜ Listed p × (inRange (b .range) zeroV ≡ true) ⌝ }
+    ensures { λ r. ⌜ r ≡ shortSearch (rdAt b (now (cur .entry)) (now (reference .entry)) lambda) p ⌝ }
+{
+    let empty = MotionSearchResult::empty();
+    let subset_b = p.subset_b;
+    let subset_c = p.subset_c;
+    let middle = empty.try_mv(b, cur, reference, lambda, p.center);
+    let near = try_mvs(b, cur, reference, lambda, middle, subset_b, p.b_count);
+    let best = try_mvs(b, cur, reference, lambda, near, subset_c, p.c_count);
+    fullpel_diamond_search(b, cur, reference, lambda, best)
+}
+
+// Level 4: stops below the threshold.
+fn extensive_search(
+    b: Block,
+    cur: &[u8],
+    reference: &[u8],
+    lambda: u32,
+    p: MotionEstimationSubsets,
+) -> MotionSearchResult
+    requires { ⌜ Lies b (length (now cur)) × Lies b (length (now reference)) ⌝ }
+    requires { ⌜ Listed p × (inRange (b .range) zeroV ≡ true) ⌝ }
+    ensures { λ r. ⌜ r ≡ extensiveSearch (rdAt b (now (cur .entry)) (now (reference .entry)) lambda) p ⌝ }
+{
+    let subset_b = p.subset_b;
+    let subset_c = p.subset_c;
+    let near = try_cands(b, cur, reference, lambda, subset_b, p.b_count);
+    if near.rd.sad < p.threshold {
+        return near;
+    }
+    let before = try_cands(b, cur, reference, lambda, subset_c, p.c_count);
+    let best = near.or_cheaper(before);
+    if best.rd.sad < p.threshold {
+        return best;
+    }
+    uneven_multi_hex_search(b, cur, reference, lambda, best)
+}
+
+fn full_pixel_me(
+    b: Block,
+    cur: &[u8],
+    reference: &[u8],
+    lambda: u32,
+    level: usize,
+    p: MotionEstimationSubsets,
+) -> MotionSearchResult
+    requires { ⌜ Lies b (length (now cur)) × Lies b (length (now reference)) ⌝ }
+    requires { ⌜ Listed p × (inRange (b .range) zeroV ≡ true) ⌝ }
+    ensures { λ r. ⌜ r ≡ fullPixelMe (rdAt b (now (cur .entry)) (now (reference .entry)) lambda) level p ⌝ }
+{
+    if level == 4 {
+        return extensive_search(b, cur, reference, lambda, p);
+    }
+    short_search(b, cur, reference, lambda, p)
+}
+
+// What is saved of a result: its vector at full size, its SAD as that of a block of 128 by 128.
+fn stats_of(ssdec: u32, w: usize, h: usize, best: MotionSearchResult) -> MEStats
+    requires { ⌜ (ssdec < 16) × FitsV (shlV (best .mv) ssdec) ⌝ }
+    requires { ⌜ (0 < w) × (w ≤ 64) × (0 < h) × (h ≤ 64) × (best .rd .sad ≤ 255 * (w * h)) ⌝ }
+    ensures { λ r. ⌜ r ≡ statsOf ssdec w h best ⌝ }
+{
+    let mv = best.mv.shl(ssdec);
+    let area = (w * h) as u64;
+    MEStats {
+        mv,
+        normalized_sad: (((best.rd.sad as u64) << 14) / area) as u32,
+    }
+}
+
+// The search of a block from its predictors.
+pub fn estimate_motion(
+    width: usize,
+    height: usize,
+    level: usize,
+    bx: usize,
+    by: usize,
+    cur: &[u8],
+    reference: &[u8],
+    lambda: u32,
+    present: bool,
+    prev_rows: &[i16],
+    prev_cols: &[i16],
+    prev_sads: &[u32],
+    rows: &[i16],
+    cols: &[i16],
+    sads: &[u32],
+) -> MEStats
+    requires { ⌜ Ready (inputsOf width height level (now cur) (now reference) lambda) ⌝ }
+    requires { ⌜ HeldIf width height (previousOf present (gridOf (now «prev_rows») (now «prev_cols») (now «prev_sads»))) ⌝ }
+    requires { ⌜ Starts width (levelOf level .«mv_size») bx × Starts height (levelOf level .«mv_size») by ⌝ }
+    requires { ⌜ Held width height (gridOf (now rows) (now cols) (now sads)) ⌝ }
+    ensures { λ r. ⌜ r ≡ estimateMotion (inputsOf width height level (now (cur .entry)) (now (reference .entry)) lambda) (previousOf present (gridOf (now («prev_rows» .entry)) (now («prev_cols» .entry)) (now («prev_sads» .entry)))) bx by (gridOf (now (rows .entry)) (now (cols .entry)) (now (sads .entry))) ⌝ }
+{
+    let row = level_of(level);
+    let b = block_of(width, height, row, row.mv_size, bx, by);
+    let p = get_subset_predictors(
+        width,
+        height,
+        level,
+        bx,
+        by,
+        present,
+        prev_rows,
+        prev_cols,
+        prev_sads,
+        rows,
+        cols,
+        sads,
+    );
+    let best = full_pixel_me(b, cur, reference, lambda, level, p);
+    stats_of(row.ssdec, b.w, b.h, best)
+}
+
+// The vector stored in a block's first cell.
+fn first_stored(width: usize, bx: usize, by: usize, rows: &[i16], cols: &[i16]) -> MotionVector
+    requires { ⌜ (width ≤ largestSide) × (bx ≤ largestSide) × (by ≤ largestSide) ⌝ }
+    requires { ⌜ (cellAt width bx by < length (now rows)) × (cellAt width bx by < length (now cols)) ⌝ }
+    ensures { λ r. ⌜ r ≡ firstStored width bx by (now (rows .entry)) (now (cols .entry)) ⌝ }
+{
+    stored_at(rows, cols, cell_at(width, bx, by))
+}
+
+// The window of a block's refinement, round the vector stored in its first cell.
+pub fn window_at(
+    width: usize,
+    height: usize,
+    level: usize,
+    bx: usize,
+    by: usize,
+    rows: &[i16],
+    cols: &[i16],
+) -> Window
+    requires { ⌜ Side width × Side height × Leveled level ⌝ }
+    requires { ⌜ Starts width (levelOf level .refined) bx × Starts height (levelOf level .refined) by ⌝ }
+    requires { ⌜ (cells width height ≤ length (now rows)) × (cells width height ≤ length (now cols)) ⌝ }
+    ensures { λ r. ⌜ r ≡ windowAt width height level bx by (now (rows .entry)) (now (cols .entry)) ⌝ }
+{
+    let row = level_of(level);
+    let b = block_of(width, height, row, row.refined, bx, by);
+    let stored = first_stored(width, bx, by, rows, cols);
+    refine_window(b.range, stored, row.ssdec)
+}
+
+// The refinement of a block, whose window is not empty.
+pub fn refine_motion(
+    width: usize,
+    height: usize,
+    level: usize,
+    bx: usize,
+    by: usize,
+    cur: &[u8],
+    reference: &[u8],
+    lambda: u32,
+    rows: &[i16],
+    cols: &[i16],
+) -> MEStats
+    requires { ⌜ Ready (inputsOf width height level (now cur) (now reference) lambda) ⌝ }
+    requires { ⌜ Starts width (levelOf level .refined) bx × Starts height (levelOf level .refined) by ⌝ }
+    requires { ⌜ (cells width height ≤ length (now rows)) × (cells width height ≤ length (now cols)) ⌝ }
+    requires { ⌜ windowOk (windowAt width height level bx by (now rows) (now cols)) ≡ true ⌝ }
+    ensures { λ r. ⌜ r ≡ refineMotion (inputsOf width height level (now (cur .entry)) (now (reference .entry)) lambda) bx by (now (rows .entry)) (now (cols .entry)) ⌝ }
+{
+    let row = level_of(level);
+    let b = block_of(width, height, row, row.refined, bx, by);
+    let stored = first_stored(width, bx, by, rows, cols);
+    let window = refine_window(b.range, stored, row.ssdec);
+    let best = full_search(b, cur, reference, lambda, window);
+    stats_of(row.ssdec, b.w, b.h, best)
+}

@@ -1,0 +1,37 @@
+-- A run: levels 4, 3, 2; in each, every superblock in list order.
+use Prim.Native.Nat.{ℕ}
+use mathlib.Core.Bool.{cond}
+use mathlib.Core.List.{List, [], _∷_}
+use lib.Dec.{eqb}
+use Rattle.predict.specs.Grid.{Grid}
+use Rattle.estimate.specs.Inputs.{Inputs, Previous, inputsOf}
+use Rattle.frame.specs.Step.{step}
+
+-- six planes are lent: current and reference at full, half and quarter size
+pub record Planes : Type 0 where
+  pub full : List ℕ
+  pub half : List ℕ
+  pub quarter : List ℕ
+
+abbrev pub planesOf : List ℕ → List ℕ → List ℕ → Planes
+planesOf full half quarter = record { full = full; half = half; quarter = quarter }
+
+-- the plane of a level
+unfoldable pub planeAt : Planes → ℕ → List ℕ
+planeAt p level = cond (eqb level 4) (p .quarter) (cond (eqb level 3) (p .half) (p .full))
+
+-- steps at one level, in list order
+unfoldable pub levelRun : Inputs → Previous → List ℕ → Grid → Grid
+levelRun i p [] g = g
+levelRun i p (n ∷ ns) g = levelRun i p ns (step i p n g)
+
+-- what a level of a run works with
+unfoldable pub inputsAt : ℕ → ℕ → Planes → Planes → ℕ → ℕ → Inputs
+inputsAt width height cur ref weight level =
+    inputsOf width height level (planeAt cur level) (planeAt ref level) weight
+
+-- levels 4, 3, 2, for any list of superblocks in the frame
+unfoldable pub frameRun : ℕ → ℕ → Planes → Planes → ℕ → Previous → List ℕ → Grid → Grid
+frameRun width height cur ref weight p list g =
+    let at : ℕ → Inputs = inputsAt width height cur ref weight in
+    levelRun (at 2) p list (levelRun (at 3) p list (levelRun (at 4) p list g))

@@ -1,0 +1,131 @@
+use crate::step::superblock_step;
+ghost use mathlib.Core.Path.{_≡_};
+ghost use Prim.Native.Nat.{ℕ, _<_};
+ghost use lib.ListN.{length, getD};
+ghost use Rattle.motion.specs.Frame.{Side};
+ghost use Rattle.motion.specs.Superblock.{superblocks};
+ghost use Rattle.predict.specs.Grid.{Held, gridOf};
+ghost use Rattle.estimate.specs.Inputs.{Ready, PlaneHeld, HeldIf, inputsOf, previousOf};
+ghost use Rattle.frame.specs.Run.{planesOf, levelRun, frameRun};
+
+// Every superblock of a list at one level, in list order.
+fn level_run(
+    width: usize,
+    height: usize,
+    level: usize,
+    cur: &[u8],
+    reference: &[u8],
+    lambda: u32,
+    present: bool,
+    prev_rows: &[i16],
+    prev_cols: &[i16],
+    prev_sads: &[u32],
+    list: &[u16],
+    rows: &mut [i16],
+    cols: &mut [i16],
+    sads: &mut [u32],
+)
+    requires { ⌜ Ready (inputsOf width height level (now cur) (now reference) lambda) ⌝ }
+    requires { ⌜ HeldIf width height (previousOf present (gridOf (now «prev_rows») (now «prev_cols») (now «prev_sads»))) ⌝ }
+    requires { ⌜ Held width height (gridOf (now rows) (now cols) (now sads)) ⌝ }
+    requires { ⌜ ((k : ℕ) → k < length (now list) → getD (now list) k 0 < superblocks width height) ⌝ }
+    ensures { λ r. ⌜ gridOf (now (rows .exit)) (now (cols .exit)) (now (sads .exit)) ≡ levelRun (inputsOf width height level (now (cur .entry)) (now (reference .entry)) lambda) (previousOf present (gridOf (now («prev_rows» .entry)) (now («prev_cols» .entry)) (now («prev_sads» .entry)))) (now (list .entry)) (gridOf (now (rows .entry)) (now (cols .entry)) (now (sads .entry))) ⌝ }
+{
+    let mut k = 0;
+    while k < list.len() {
+        superblock_step(
+            width,
+            height,
+            level,
+            list[k] as usize,
+            cur,
+            reference,
+            lambda,
+            present,
+            prev_rows,
+            prev_cols,
+            prev_sads,
+            rows,
+            cols,
+            sads,
+        );
+        k += 1;
+    }
+}
+
+// Levels 4, 3 and 2, each in list order.
+pub fn frame_run(
+    width: usize,
+    height: usize,
+    cur: &[u8],
+    cur_half: &[u8],
+    cur_quarter: &[u8],
+    reference: &[u8],
+    ref_half: &[u8],
+    ref_quarter: &[u8],
+    lambda: u32,
+    present: bool,
+    prev_rows: &[i16],
+    prev_cols: &[i16],
+    prev_sads: &[u32],
+    list: &[u16],
+    rows: &mut [i16],
+    cols: &mut [i16],
+    sads: &mut [u32],
+)
+    requires { ⌜ Side width × Side height × PlaneHeld width height 2 (now cur) × PlaneHeld width height 3 (now «cur_half») × PlaneHeld width height 4 (now «cur_quarter») ⌝ }
+    requires { ⌜ PlaneHeld width height 2 (now reference) × PlaneHeld width height 3 (now «ref_half») × PlaneHeld width height 4 (now «ref_quarter») ⌝ }
+    requires { ⌜ HeldIf width height (previousOf present (gridOf (now «prev_rows») (now «prev_cols») (now «prev_sads»))) ⌝ }
+    requires { ⌜ Held width height (gridOf (now rows) (now cols) (now sads)) ⌝ }
+    requires { ⌜ ((k : ℕ) → k < length (now list) → getD (now list) k 0 < superblocks width height) ⌝ }
+    ensures { λ r. ⌜ gridOf (now (rows .exit)) (now (cols .exit)) (now (sads .exit)) ≡ frameRun width height (planesOf (now (cur .entry)) (now («cur_half» .entry)) (now («cur_quarter» .entry))) (planesOf (now (reference .entry)) (now («ref_half» .entry)) (now («ref_quarter» .entry))) lambda (previousOf present (gridOf (now («prev_rows» .entry)) (now («prev_cols» .entry)) (now («prev_sads» .entry)))) (now (list .entry)) (gridOf (now (rows .entry)) (now (cols .entry)) (now (sads .entry))) ⌝ }
+{
+    level_run(
+        width,
+        height,
+        4,
+        cur_quarter,
+        ref_quarter,
+        lambda,
+        present,
+        prev_rows,
+        prev_cols,
+        prev_sads,
+        list,
+        rows,
+        cols,
+        sads,
+    );
+    level_run(
+        width,
+        height,
+        3,
+        cur_half,
+        ref_half,
+        lambda,
+        present,
+        prev_rows,
+        prev_cols,
+        prev_sads,
+        list,
+        rows,
+        cols,
+        sads,
+    );
+    level_run(
+        width,
+        height,
+        2,
+        cur,
+        reference,
+        lambda,
+        present,
+        prev_rows,
+        prev_cols,
+        prev_sads,
+        list,
+        rows,
+        cols,
+        sads,
+    );
+}
