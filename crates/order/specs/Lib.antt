@@ -1,0 +1,2 @@
+-- What a reader must believe of a frame run's list of superblocks.
+pub mod List

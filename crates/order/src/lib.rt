@@ -1,0 +1,2 @@
+// The order in which a frame run takes the superblocks.
+pub mod list;
