@@ -2,8 +2,10 @@
  *
  * Link the static library that `rt staticlib inter` writes. No function asks
  * anything of its caller: whatever numbers and buffers come, it ends, reads
- * only what it was lent, and answers or refuses. A slice is a pointer and a
- * count of elements; with a count of 0 the pointer may be anything but null.
+ * only what it was lent, and answers or refuses; a step and a run write to the
+ * grid that they are lent and nowhere else. A slice is a pointer and a count
+ * of elements; with a count of 0 the pointer may be anything but null. A buffer
+ * that is written must not overlap another.
  *
  * Frame: width and height are multiples of 8, from 8 to 1,024.
  * Level: 4, 3 or 2, with blocks of 64, 32 or 16 pixels, shift s = 2, 1 or 0,
@@ -12,16 +14,31 @@
  * and 4·by are multiples of the block size.
  * Plane: bytes, stride (width >> s) + 2P, (height >> s) + 2P rows; sample
  * (x, y) is at (y + P) * stride + x + P. A longer slice is allowed.
+ * Six planes, where a call is lent them all: the current frame's full, half
+ * and quarter plane (levels 2, 3 and 4), then the reference frame's in the
+ * same order.
  * Vectors are (row, col) in eighths of a pixel of the level's planes.
+ * Grid: three buffers, the cells' rows, cols and normalised SADs, each of
+ * width / 4 by height / 4 cells, row by row; its vectors are of the full size.
+ * A longer buffer is allowed, and its cells past the frame's are never written.
+ * Previous grid: with `present` 0 there is none, and its three buffers are
+ * neither tested nor read; anything else says that there is one.
+ * Superblock: 64 by 64 pixels, numbered from 0 in raster order,
+ * (width + 63) / 64 in each of (height + 63) / 64 rows.
  *
- * Refusals (the lowest that applies, with 0 in every other field):
+ * Refusals (the lowest that applies, with 0 in every other field; after one
+ * every cell of the grid stays as it was):
  *   0  done
  *   1  width or height outside the rule above
  *   2  level not 2, 3 or 4; for a refinement, not 2 or 3
- *   3  block start not inside the frame, or not a multiple of the block size
+ *   3  block start not inside the frame, or not a multiple of the block size;
+ *      for a step, a superblock number not in the frame
  *   4  a plane is shorter than stride times rows
- *   5  a buffer of the grid is shorter than (width / 4) * (height / 4)
- *   8  the refinement's window is empty
+ *   5  a buffer of the grid, or of a previous grid that is present, is shorter
+ *      than (width / 4) * (height / 4)
+ *   6  the list does not name each superblock exactly once and nothing else
+ *   7  the list has two superblocks that share an edge against raster order
+ *   8  a refinement's window is empty
  *   9  the start vector is outside the block's range
  */
 #ifndef LOCKDAPPLE_H
@@ -52,6 +69,26 @@ struct lockdapple_ends {
     int16_t mvx_max;
     int16_t mvy_min;
     int16_t mvy_max;
+};
+
+struct lockdapple_vector {
+    int16_t row;
+    int16_t col;
+};
+
+/* A refusal's number, and the predictors of a block at the level's shift:
+ * b_count vectors of list B and c_count of list C, the zero vector after them;
+ * the centre, the zero vector at level 4; the minimum SAD, and the SAD below
+ * which a search stops. */
+struct lockdapple_subsets {
+    uint32_t code;
+    uint32_t min_sad;
+    uint32_t threshold;
+    uint32_t b_count;
+    uint32_t c_count;
+    struct lockdapple_vector center;
+    struct lockdapple_vector b[5];
+    struct lockdapple_vector c[5];
 };
 
 /* Twice the bit length of |component >> 1|, summed over both components. */
@@ -85,14 +122,50 @@ struct lockdapple_found lockdapple_multi_hexagon(size_t width, size_t height, si
                                                  size_t reference_len, int16_t row, int16_t col, uint32_t weight);
 
 /* Refinement of the block of 64 (level 3) or 32 (level 2) pixels at cell
- * (bx, by), round the full-size vector stored in that cell of the grid, which
- * is three buffers of width / 4 by height / 4 cells, row by row. It reads that
- * cell's row and col alone and writes nothing. Refuses with 1 to 5 and 8. */
+ * (bx, by), round the full-size vector stored in that cell of the grid. It
+ * reads that cell's row and col alone and writes nothing. Refuses with 1 to 5
+ * and 8. */
 struct lockdapple_found lockdapple_refine(size_t width, size_t height, size_t level, size_t bx, size_t by,
                                           const uint8_t *cur, size_t cur_len, const uint8_t *reference,
                                           size_t reference_len, const int16_t *rows, size_t rows_len,
                                           const int16_t *cols, size_t cols_len, const uint32_t *sads, size_t sads_len,
                                           uint32_t weight);
+
+/* The predictors of the level's own block at cell (bx, by), from the grid as
+ * it stands and the previous one. Writes nothing. Refuses with 1, 2, 3 and 5. */
+struct lockdapple_subsets lockdapple_predictors(size_t width, size_t height, size_t level, size_t bx, size_t by,
+                                                size_t present, const int16_t *prev_rows, size_t prev_rows_len,
+                                                const int16_t *prev_cols, size_t prev_cols_len,
+                                                const uint32_t *prev_sads, size_t prev_sads_len, const int16_t *rows,
+                                                size_t rows_len, const int16_t *cols, size_t cols_len,
+                                                const uint32_t *sads, size_t sads_len);
+
+/* One superblock at one level, at weight 0: its refinements in raster order
+ * (none at level 4), then its blocks in raster order, each result saved in the
+ * grid. Of the six planes only the two of the level are tested and read.
+ * Refuses with 1 to 5, and with 8 where a window of any of its refinements is
+ * empty in the grid before the step. */
+uint32_t lockdapple_superblock_step(size_t width, size_t height, size_t level, size_t superblock, const uint8_t *cur,
+                                    size_t cur_len, const uint8_t *cur_half, size_t cur_half_len,
+                                    const uint8_t *cur_quarter, size_t cur_quarter_len, const uint8_t *reference,
+                                    size_t reference_len, const uint8_t *ref_half, size_t ref_half_len,
+                                    const uint8_t *ref_quarter, size_t ref_quarter_len, size_t present,
+                                    const int16_t *prev_rows, size_t prev_rows_len, const int16_t *prev_cols,
+                                    size_t prev_cols_len, const uint32_t *prev_sads, size_t prev_sads_len,
+                                    int16_t *rows, size_t rows_len, int16_t *cols, size_t cols_len, uint32_t *sads,
+                                    size_t sads_len);
+
+/* A run of a frame, at weight 0: levels 4, 3 and 2, and in each a step for
+ * every superblock in the order of `list`, which holds each superblock's
+ * number once. All six planes are tested. Refuses with 1, 4, 5, 6 and 7. */
+uint32_t lockdapple_frame_run(size_t width, size_t height, const uint8_t *cur, size_t cur_len, const uint8_t *cur_half,
+                              size_t cur_half_len, const uint8_t *cur_quarter, size_t cur_quarter_len,
+                              const uint8_t *reference, size_t reference_len, const uint8_t *ref_half,
+                              size_t ref_half_len, const uint8_t *ref_quarter, size_t ref_quarter_len, size_t present,
+                              const int16_t *prev_rows, size_t prev_rows_len, const int16_t *prev_cols,
+                              size_t prev_cols_len, const uint32_t *prev_sads, size_t prev_sads_len,
+                              const uint16_t *list, size_t list_len, int16_t *rows, size_t rows_len, int16_t *cols,
+                              size_t cols_len, uint32_t *sads, size_t sads_len);
 
 #ifdef __cplusplus
 }

@@ -1,23 +1,26 @@
 -- What a call that is not refused may count on. Assumes nothing.
 use mathlib.Core.Path.{_≡_, refl, sym, ap, subst, _∙_}
 use mathlib.Core.Bool.{Bool, true, false, _&&_, _||_, cond}
-use mathlib.Core.Logic.{_⊎_, inl, inr, ⊎-elim}
+use mathlib.Core.Logic.{_⊎_, ⊎-elim}
 use Prim.Native.Nat.{ℕ, zero, suc, _*_, _/_, _%_, _≤_, _<_}
 use native.Mathlib.Omega.{arith}
 use borrow.Author.Tests.{leb-true, ltb-true, eqb-true, eq-eqb, ne-eqb}
 use lib.Dec.{leb, ltb, eqb}
+use lib.ListN.{length}
 use Rattle.motion.specs.Limits.{sideStep, largestSide, cellSide}
 use Rattle.motion.specs.Level.{level4, level3, level2, levelOf}
-use Rattle.motion.specs.Frame.{Side, Starts, Sized, own4, own3, own2, refined3, refined2}
+use Rattle.motion.specs.Frame.{Side, Starts, Sized, Placed, own4, own3, own2, refined3, refined2}
 use Rattle.motion.specs.Block.{planeOf}
-use Rattle.motion.proofs.TestLaws.{both}
+use Rattle.motion.proofs.TestLaws.{both, either}
 use Rattle.sad.specs.Plane.{Lies}
 use Rattle.sad.proofs.Contained.{lies}
 use Rattle.motion.proofs.LevelLaws.{each-level}
+use Rattle.predict.specs.Grid.{Grid, Held, cells}
 use Rattle.inter.specs.declared.found.Found.{Found}
 use Rattle.inter.specs.Found.{refused, answer}
-use Rattle.inter.specs.Refusal.{refuse, _then_, sideOk, levelOk, sizeOf, startOk, planeOk, blockRefusal, planesRefusal, callRefusal, cells, gridOk}
+use Rattle.inter.specs.Refusal.{refuse, _then_, sideOk, levelOk, sizeOf, startOk, planeOk, blockRefusal, planesRefusal, callRefusal, gridOk}
 use Rattle.inter.specs.Call.{blockAt}
+use Rattle.inter.specs.Grids.{gridHolds}
 
 -- no number at all: the first test passed, and no later one refused
 pub first-passed : (n : ℕ) (t : Bool) (later : ℕ) → refuse (suc n) t then later ≡ 0 → (t ≡ true) × (later ≡ 0)
@@ -30,6 +33,10 @@ unfolding refuse
 passes n true e = refl
 passes n false e = absurd (omega arith)
 
+pub refuse-is : (n : ℕ) (t : Bool) → t ≡ false → refuse n t ≡ n
+unfolding refuse
+refuse-is n t e = rw e
+
 -- the first of two numbers that is not 0
 pub then-first : (n later : ℕ) → (n ≡ 0 → ⊥) → n then later ≡ n
 unfolding _then_
@@ -39,6 +46,10 @@ then-first (suc n) later h = refl
 pub then-later : (n later : ℕ) → n ≡ 0 → n then later ≡ later
 unfolding _then_
 then-later n later e = ap (λ (m : ℕ). m then later) e
+
+-- a code that is the first of two numbers
+pub first-is : {code n : ℕ} (later : ℕ) → code ≡ n → (code ≡ 0 → ⊥) → code ≡ n then later
+first-is {code} {n} later e h = e ∙ sym (then-first n later (λ z. h (e ∙ z)))
 
 pub none-of : (n later : ℕ) → n then later ≡ 0 → (n ≡ 0) × (later ≡ 0)
 unfolding _then_
@@ -57,10 +68,6 @@ unfolding startOk
 starts-of side size b h =
     let parts = both (ltb b (side / cellSide)) (eqb ((cellSide * b) % size) 0) h in
     record { inside = ltb-true b (side / cellSide) (parts .0); aligned = eqb-true ((cellSide * b) % size) 0 (parts .1) }
-
-either : (s t : Bool) → s || t ≡ true → (s ≡ true) ⊎ (t ≡ true)
-either true t e = inl refl
-either false t e = inr e
 
 -- a level that passes has a row of the table, at its own size or at the refined one
 at2 : (t : Bool) → Sized level2 (cond t 16 32)
@@ -90,14 +97,7 @@ sized-of level refined h =
     at m n e s = subst (λ (k : ℕ). Sized (levelOf k) (sizeOf k refined)) (sym e) s
 
 -- what numbers 1 to 3 leave
-pub record Accepted (width height level refined bx by : ℕ) : Type 0 where
-  pub wide : Side width
-  pub high : Side height
-  pub sized : Sized (levelOf level) (sizeOf level refined)
-  pub across : Starts width (sizeOf level refined) bx
-  pub down : Starts height (sizeOf level refined) by
-
-pub accepted : (width height level refined bx by : ℕ) → blockRefusal width height level refined bx by ≡ 0 → Accepted width height level refined bx by
+pub accepted : (width height level refined bx by : ℕ) → blockRefusal width height level refined bx by ≡ 0 → Placed width height (levelOf level) (sizeOf level refined) bx by
 unfolding blockRefusal
 accepted width height level refined bx by e =
     let size = sizeOf level refined in
@@ -125,10 +125,19 @@ lent width height level n m e =
     let parts = both (planeOk width height level n) (planeOk width height level m) (passes 3 (planeOk width height level n && planeOk width height level m) e) in
     record { cur = leb-true _ n (parts .0); ref = leb-true _ m (parts .1) }
 
+-- and the only number that it gives
+pub planes-short : (width height level n m : ℕ) → (planesRefusal width height level n m ≡ 0 → ⊥) → planesRefusal width height level n m ≡ 4
+unfolding planesRefusal refuse
+planes-short width height level n m h = go (planeOk width height level n && planeOk width height level m) h
+  where
+    go : (t : Bool) → (_≡_ {A = ℕ} (cond t 0 4) 0 → ⊥) → _≡_ {A = ℕ} (cond t 0 4) 4
+    go true h = absurd (h refl)
+    go false h = refl
+
 -- a call that numbers 1 to 4 leave has its block inside both planes
 pub record Opened (width height level refined bx by n m : ℕ) : Type 0 where
   pub none : blockRefusal width height level refined bx by ≡ 0
-  pub block : Accepted width height level refined bx by
+  pub block : Placed width height (levelOf level) (sizeOf level refined) bx by
   pub cur : Lies (blockAt width height level refined bx by) n
   pub ref : Lies (blockAt width height level refined bx by) m
 
@@ -146,15 +155,13 @@ opened width height level refined bx by n m e =
     }
 
 -- what number 5 leaves
-pub record Held (width height nr nc ns : ℕ) : Type 0 where
-  pub rows : cells width height ≤ nr
-  pub cols : cells width height ≤ nc
-  pub sads : cells width height ≤ ns
-
-pub held : (width height rows cols sads : ℕ) → gridOk width height rows cols sads ≡ true → Held width height rows cols sads
-unfolding gridOk
-held width height rows cols sads e =
+pub held : (width height : ℕ) (g : Grid) → gridHolds width height g ≡ true → Held width height g
+unfolding gridHolds gridOk
+held width height g e =
     let n = cells width height in
+    let rows = length (g .rows) in
+    let cols = length (g .cols) in
+    let sads = length (g .sads) in
     let first = both (leb n rows) (leb n cols && leb n sads) e in
     let rest = both (leb n cols) (leb n sads) (first .1) in
     record { rows = leb-true n rows (first .0); cols = leb-true n cols (rest .0); sads = leb-true n sads (rest .1) }

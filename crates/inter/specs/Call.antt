@@ -1,11 +1,8 @@
 -- What a call names, and what each vector costs it.
 use Prim.Native.Nat.{ℕ}
-use mathlib.Core.List.{List}
 use Rattle.motion.specs.declared.block.Block.{Block}
 use Rattle.motion.specs.Level.{levelOf}
 use Rattle.motion.specs.Block.{blockOf}
-use Rattle.sad.specs.Cost.{rdAt}
-use Rattle.search.specs.Result.{CostOf}
 use Rattle.inter.specs.Refusal.{sizeOf}
 
 -- the block that a call names by level, refined or not, and cell

@@ -5,3 +5,7 @@ pub mod Call
 pub mod Leaves
 pub mod Searches
 pub mod Refinement
+pub mod Grids
+pub mod Predicting
+pub mod Steps
+pub mod Runs

@@ -1,33 +1,18 @@
 -- One refinement of a block, round the vector stored in its first cell.
-use Prim.Native.Nat.{ℕ, _+_, _*_, _/_}
-use mathlib.Core.Bool.{Bool, _&&_}
+use Prim.Native.Nat.{ℕ}
 use mathlib.Core.List.{List}
-use lib.Dec.{ltb}
-use lib.IntN.{ℤ, pos}
-use lib.ListN.{length, getD}
+use lib.IntN.{ℤ}
+use lib.ListN.{length}
 use Rattle.motion.specs.declared.vector.MotionVector.{MotionVector}
 use Rattle.motion.specs.declared.block.Block.{Block}
-use Rattle.motion.specs.Limits.{cellSide}
 use Rattle.motion.specs.Level.{levelOf}
 use Rattle.sad.specs.Cost.{rdAt}
-use Rattle.search.specs.declared.full.Window.{Window}
-use Rattle.search.specs.Full.{refineWindow, refine}
+use Rattle.search.specs.Full.{refineWindow, windowOk, refine}
+use Rattle.predict.specs.Grid.{cellAt, storedAt}
 use Rattle.inter.specs.declared.found.Found.{Found}
 use Rattle.inter.specs.Found.{foundOf, answer}
 use Rattle.inter.specs.Refusal.{refuse, _then_, callRefusal, gridOk}
 use Rattle.inter.specs.Call.{blockAt}
-
--- the grid is row by row, W/4 cells each
-unfoldable pub cellAt : ℕ → ℕ → ℕ → ℕ
-cellAt width bx by = by * (width / cellSide) + bx
-
--- the vector stored in a cell
-unfoldable pub storedAt : List ℤ → List ℤ → ℕ → MotionVector
-storedAt rows cols i = record { row = getD rows i (pos 0); col = getD cols i (pos 0) }
-
--- whether a window has at least one row and one column
-unfoldable pub windowOk : Window → Bool
-windowOk window = ltb 0 (window .rows .count) && ltb 0 (window .cols .count)
 
 -- 8: an empty window; else vector, SAD and cost at shift s
 unfoldable pub windowAnswer : Block → List ℕ → List ℕ → ℕ → MotionVector → ℕ → Found

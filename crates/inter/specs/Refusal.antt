@@ -5,6 +5,7 @@ use lib.Dec.{leb, ltb, eqb}
 use Rattle.motion.specs.Limits.{sideStep, largestSide, cellSide}
 use Rattle.motion.specs.Level.{levelOf}
 use Rattle.motion.specs.Block.{planeOf}
+use Rattle.predict.specs.Grid.{cells}
 
 -- a test that refuses with a number where it does not pass
 unfoldable pub refuse : ℕ → Bool → ℕ
@@ -52,10 +53,6 @@ planesRefusal width height level n m = refuse 4 (planeOk width height level n &&
 unfoldable pub callRefusal : ℕ → ℕ → ℕ → ℕ → ℕ → ℕ → ℕ → ℕ → ℕ
 callRefusal width height level refined bx by n m =
     blockRefusal width height level refined bx by then planesRefusal width height level n m
-
--- a grid has W/4 columns and H/4 rows of cells
-unfoldable pub cells : ℕ → ℕ → ℕ
-cells width height = (width / cellSide) * (height / cellSide)
 
 -- 5: none of the grid's three buffers is too short
 unfoldable pub gridOk : ℕ → ℕ → ℕ → ℕ → ℕ → Bool

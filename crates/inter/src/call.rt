@@ -7,7 +7,7 @@ ghost use Rattle.inter.specs.Refusal.{blockRefusal};
 ghost use Rattle.inter.specs.Call.{blockAt};
 
 // The block of a call that numbers 1 to 3 do not refuse.
-pub fn block_at(
+pub(crate) fn block_at(
     width: usize,
     height: usize,
     level: usize,

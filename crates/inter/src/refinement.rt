@@ -5,24 +5,15 @@ use crate::refusal::grid_ok;
 use motion::block::Block;
 use motion::level::level_of;
 use motion::vector::MotionVector;
+use predict::grid::cell_at;
+use predict::grid::stored_at;
 use search::full::full_search;
 use search::full::refine_window;
 ghost use mathlib.Core.Path.{_≡_};
 ghost use Prim.Native.Nat.{_<_};
 ghost use lib.ListN.{length};
 ghost use Rattle.sad.specs.Plane.{Lies};
-ghost use Rattle.inter.specs.Refinement.{storedAt, windowAnswer, refineAnswer};
-
-// The vector stored in a cell.
-fn stored_at(rows: &[i16], cols: &[i16], i: usize) -> MotionVector
-    requires { ⌜ (i < length (now rows)) × (i < length (now cols)) ⌝ }
-    ensures { λ r. ⌜ r ≡ storedAt (now (rows .entry)) (now (cols .entry)) i ⌝ }
-{
-    MotionVector {
-        row: rows[i],
-        col: cols[i],
-    }
-}
+ghost use Rattle.inter.specs.Refinement.{windowAnswer, refineAnswer};
 
 // The search of the window, unless it is empty.
 fn refine_block(
@@ -38,10 +29,7 @@ fn refine_block(
     ensures { λ r. ⌜ r ≡ windowAnswer b (now (cur .entry)) (now (reference .entry)) weight stored ssdec ⌝ }
 {
     let window = refine_window(b.range, stored, ssdec);
-    if window.rows.count == 0 {
-        return Found::refuse(8);
-    }
-    if window.cols.count == 0 {
+    if !window.ok() {
         return Found::refuse(8);
     }
     let best = full_search(b, cur, reference, weight, window);
@@ -72,7 +60,7 @@ pub extern "C" fn lockdapple_refine(
         return Found::refuse(5);
     }
     let b = block_at(width, height, level, 1, bx, by);
-    let stored = stored_at(rows, cols, by * (width / 4) + bx);
+    let stored = stored_at(rows, cols, cell_at(width, bx, by));
     let ssdec = level_of(level).ssdec;
     refine_block(b, cur, reference, weight, stored, ssdec)
 }

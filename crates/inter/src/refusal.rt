@@ -8,7 +8,7 @@ ghost use Rattle.motion.specs.Limits.{largestSide};
 
 const LARGEST_SIDE: usize = 1024;
 
-fn side_ok(side: usize) -> bool
+pub(crate) fn side_ok(side: usize) -> bool
     ensures { λ r. ⌜ r ≡ sideOk side ⌝ }
 {
     if side % 8 != 0 {
@@ -21,7 +21,7 @@ fn side_ok(side: usize) -> bool
 }
 
 // `refined` is 0 for a level's own block, anything else for the block that it refines first.
-fn level_ok(level: usize, refined: usize) -> bool
+pub(crate) fn level_ok(level: usize, refined: usize) -> bool
     ensures { λ r. ⌜ r ≡ levelOk level refined ⌝ }
 {
     if level == 2 {
@@ -95,7 +95,13 @@ fn plane_ok(width: usize, height: usize, level: usize, len: usize) -> bool
 }
 
 // The test of number 4, of the two planes of a level.
-fn planes_refusal(width: usize, height: usize, level: usize, cur: &[u8], reference: &[u8]) -> u32
+pub(crate) fn planes_refusal(
+    width: usize,
+    height: usize,
+    level: usize,
+    cur: &[u8],
+    reference: &[u8],
+) -> u32
     requires { ⌜ (width ≤ largestSide) × (height ≤ largestSide) ⌝ }
     ensures { λ r. ⌜ r ≡ planesRefusal width height level (length (now (cur .entry))) (length (now (reference .entry))) ⌝ }
 {
@@ -129,7 +135,7 @@ pub fn call_refusal(
 }
 
 // The test of number 5: whether a grid of these three lengths holds a frame's cells.
-pub fn grid_ok(width: usize, height: usize, rows: usize, cols: usize, sads: usize) -> bool
+pub(crate) fn grid_ok(width: usize, height: usize, rows: usize, cols: usize, sads: usize) -> bool
     requires { ⌜ (width ≤ largestSide) × (height ≤ largestSide) ⌝ }
     ensures { λ r. ⌜ r ≡ gridOk width height rows cols sads ⌝ }
 {

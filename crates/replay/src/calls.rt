@@ -156,8 +156,9 @@ pub(crate) fn found_drawn(
     requires { ⌜ Drawable call ⌝ }
 {
     let stride = padded(call.width, call.level);
-    let rows = padded(call.height, call.level);
-    fill(cur, stride, rows, call.content, call.seed, 0);
-    fill(reference, stride, rows, call.content, call.seed, 1);
+    let content = call.content;
+    let seed = call.seed;
+    fill(cur, 0, LARGEST_PLANE, stride, content, seed, 0);
+    fill(reference, 0, LARGEST_PLANE, stride, content, seed, 1);
     found(entry, call, cur, reference)
 }

@@ -2,6 +2,7 @@ use crate::calls::CELLS;
 use crate::calls::Call;
 use crate::calls::Entry;
 use crate::calls::found_drawn;
+use crate::frames::frame;
 use crate::lines::Line;
 use crate::lines::Shape;
 use crate::planes::LARGEST;
@@ -9,6 +10,7 @@ use crate::planes::LARGEST_PLANE;
 use crate::sample::CONTENTS;
 use crate::sample::SEEDS;
 use crate::tally::Outcome;
+use crate::tally::equal_if;
 use inter::found::Found;
 use inter::leaves::lockdapple_range;
 use inter::leaves::lockdapple_rate;
@@ -24,6 +26,7 @@ pub(crate) enum Kind {
     Sad,
     Candidate,
     Search(Entry),
+    Frame,
 }
 
 // What the published Rust found.
@@ -48,6 +51,7 @@ struct Case {
 //     sad          block content seed row col sad
 //     candidate    block content seed row col weight sad cost
 //     a search     width height level bx by content seed row col weight out_row out_col sad cost
+//     frame        width height content seed present cell row col sad sum
 pub(crate) fn shape(kind: Kind) -> Shape {
     match kind {
         Kind::Rate => Shape {
@@ -75,14 +79,11 @@ pub(crate) fn shape(kind: Kind) -> Shape {
             vector: 7,
             other: 10,
         },
-    }
-}
-
-fn equal_if(same: bool) -> Outcome {
-    if same {
-        Outcome::Equal
-    } else {
-        Outcome::Differs
+        Kind::Frame => Shape {
+            columns: 10,
+            vector: 6,
+            other: 6,
+        },
     }
 }
 
@@ -239,5 +240,6 @@ pub(crate) fn outcome(
             reference,
         ),
         Kind::Search(entry) => compared(search(entry, line), cur, reference),
+        Kind::Frame => frame(line, cur, reference),
     }
 }

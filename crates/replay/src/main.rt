@@ -7,6 +7,7 @@
 //     equal EQUAL of READ       the cases of all kinds
 mod calls;
 mod cases;
+mod frames;
 mod lines;
 mod numbers;
 mod planes;
@@ -117,5 +118,12 @@ fn main() {
     let mut reference = [0u8; LARGEST_PLANE];
     let first = leaves(&mut cur, &mut reference);
     let second = searches(&mut cur, &mut reference);
-    equal_of(b"equal", first.plus(second));
+    let third = replay(
+        Kind::Frame,
+        b"frame",
+        b"frame.txt",
+        &mut cur,
+        &mut reference,
+    );
+    equal_of(b"equal", first.plus(second).plus(third));
 }

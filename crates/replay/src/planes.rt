@@ -10,7 +10,6 @@ pub(crate) const LARGEST_PLANE: usize = 53824;
 // A plane's side at a level, with its pad.
 pub(crate) fn padded(side: usize, level: usize) -> usize
     requires { ⌜ side ≤ 136 ⌝ }
-    ensures { λ r. ⌜ r ≤ 232 ⌝ }
 {
     match level {
         4 => side / 4 + 2 * 20,
@@ -19,21 +18,22 @@ pub(crate) fn padded(side: usize, level: usize) -> usize
     }
 }
 
+// Draws rows of `stride` samples from place `from` up to `to`. Those past the last row of a plane are never looked at.
 pub(crate) fn fill(
     plane: &mut [u8; LARGEST_PLANE],
+    from: usize,
+    to: usize,
     stride: usize,
-    rows: usize,
     content: u64,
     seed: u64,
     which: u64,
 )
-    requires { ⌜ (stride ≤ 232) × (rows ≤ 232) × (seed < 65536) × (which ≤ 1) ⌝ }
+    requires { ⌜ (to ≤ 53824) × (seed < 65536) × (which ≤ 1) ⌝ }
 {
-    let samples = stride * rows;
     let mut x: usize = 0;
     let mut y: usize = 0;
-    let mut i = 0;
-    while i < samples {
+    let mut i = from;
+    while i < to {
         plane[i] = sample(content, seed, which, x as u64, y as u64);
         x += 1;
         if x == stride {

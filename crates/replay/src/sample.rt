@@ -7,7 +7,7 @@ pub(crate) const CONTENTS: u64 = 6;
 // Seeds are below this.
 pub(crate) const SEEDS: u64 = 65_536;
 
-const PRIME: u64 = 2_147_483_647;
+pub(crate) const PRIME: u64 = 2_147_483_647;
 
 fn squared(v: u64) -> u64
     requires { ⌜ v < 2147483647 ⌝ }

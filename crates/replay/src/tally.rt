@@ -9,6 +9,14 @@ pub(crate) enum Outcome {
     Equal,
 }
 
+pub(crate) fn equal_if(same: bool) -> Outcome {
+    if same {
+        Outcome::Equal
+    } else {
+        Outcome::Differs
+    }
+}
+
 // The lines passed, the cases among them, how many came out equal, and the first line that is malformed and that
 // differs, or 0.
 pub(crate) struct Tally {

@@ -1,7 +1,7 @@
 -- `inter::leaves::lockdapple_candidate` meets its contract: a call that is not refused lends planes in which every in-range block lies.
 -- Assumes nothing.
 use borrow.Author.Needs.{needs}
-use mathlib.Core.Path.{_≡_, sym, ap, subst, _∙_}
+use mathlib.Core.Path.{sym, ap, subst, _∙_}
 use lib.ListN.{length}
 use denote.Ref.{now}
 use mir.Syntax.{w16}

@@ -2,11 +2,9 @@
 -- Assumes nothing.
 use borrow.Author.Needs.{needs}
 use borrow.Author.Tests.{eq-eqb, ne-eqb}
-use mathlib.Core.Path.{_≡_, sym, ap, _∙_}
 use mir.Syntax.{w16}
 use mir.Val.{SFits}
 use mir.ValLaws.{toZ-ofZ}
-use Rattle.motion.specs.declared.block.Block.{Block}
 use Rattle.inter.specs.Leaves.{rangeWith, rangeAnswer}
 use Rattle.inter.proofs.leaves.lockdapple_range.Statement.{statement}
 use Rattle.inter.proofs.leaves.lockdapple_range.Tie as tie

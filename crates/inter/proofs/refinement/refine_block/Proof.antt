@@ -1,52 +1,30 @@
 -- `inter::refinement::refine_block` meets its contract: a window that is not empty is searched, and 16 bits hold its offsets.
 -- Assumes nothing.
 use borrow.Author.Needs.{needs}
-use borrow.Author.Tests.{lt-ltb}
-use mathlib.Core.Path.{_≡_, refl, sym, ap, subst, _∙_}
-use mathlib.Core.Bool.{Bool, true, false, _&&_}
-use Prim.Native.Nat.{ℕ, zero, suc, _<_}
+use mathlib.Core.Path.{sym, ap, subst, _∙_}
+use Prim.Native.Nat.{ℕ, _<_}
 use native.Mathlib.Omega.{arith}
-use lib.Dec.{ltb}
 use denote.Ref.{now}
 use mir.Syntax.{w16}
 use mir.Val.{SFits}
+use Rattle.motion.proofs.TestLaws.{passed, failed}
 use Rattle.sad.specs.Cost.{rdAt}
-use Rattle.search.specs.declared.full.Span.{Span}
 use Rattle.search.specs.declared.full.Window.{Window}
 use Rattle.search.specs.declared.result.MotionSearchResult.{MotionSearchResult}
-use Rattle.search.specs.Full.{Spanned, fullSearch, refineWindow, refine}
+use Rattle.search.specs.Full.{Spanned, fullSearch, refineWindow, windowOk, refine}
 use Rattle.search.proofs.SpanLaws.{refine-spanned}
 use Rattle.inter.specs.declared.found.Found.{Found}
 use Rattle.inter.specs.Found.{foundOf}
-use Rattle.inter.specs.Refinement.{windowOk, windowAnswer}
+use Rattle.inter.specs.Refinement.{windowAnswer}
 use Rattle.inter.proofs.RefusalLaws.{refuses-at, finds}
 use Rattle.inter.proofs.refinement.refine_block.Statement.{statement}
 use Rattle.inter.proofs.refinement.refine_block.Tie as tie
 
--- the tests of the counts are those of the window's definition
-module _ (w : Window) where
-  no-rows : w .rows .count ≡ 0 → windowOk w ≡ false
-  unfolding windowOk
-  no-rows e = rw e
-
-  no-cols : w .cols .count ≡ 0 → windowOk w ≡ false
-  unfolding windowOk
-  no-cols e = rw e (and-false (ltb 0 (w .rows .count)))
-    where
-      and-false : (t : Bool) → t && false ≡ false
-      and-false true = refl
-      and-false false = refl
-
-  some : (w .rows .count ≡ 0 → ⊥) → (w .cols .count ≡ 0 → ⊥) → windowOk w ≡ true
-  unfolding windowOk
-  some hr hc = rw (lt-ltb 0 (w .rows .count) (pos-of (w .rows .count) hr), lt-ltb 0 (w .cols .count) (pos-of (w .cols .count) hc))
-    where
-      pos-of : (n : ℕ) → (n ≡ 0 → ⊥) → 0 < n
-      pos-of zero h = absurd (h refl)
-      pos-of (suc n) h = omega arith
-
 refine-window-requires : tie.Need-refine-window-requires
 refine-window-requires c κs = search needs
+
+ok-requires : tie.Need-ok-requires
+ok-requires c κs = search needs
 
 refuse-requires : tie.Need-refuse-requires
 refuse-requires c κs = search needs
@@ -54,22 +32,14 @@ refuse-requires c κs = search needs
 returns : tie.Need-returns
 unfolding windowAnswer
 returns c =
-    let w = c .before .before .before .refine-window in
-    c .refuse .ensures ∙ sym (refuses-at 7 _ _ (ap windowOk (sym (w .ensures)) ∙ no-rows (w .result) (c .before .if1 .taken)))
-
-refuse-requires-2 : tie.Need-refuse-requires-2
-refuse-requires-2 c κs = search needs
-
-returns-2 : tie.Need-returns-2
-unfolding windowAnswer
-returns-2 c =
-    let w = c .before .before .before .before .before .refine-window in
-    c .refuse2 .ensures ∙ sym (refuses-at 7 _ _ (ap windowOk (sym (w .ensures)) ∙ no-cols (w .result) (c .before .if2 .taken)))
+    let test = c .before .before in
+    let w = test .before .refine-window in
+    c .refuse .ensures ∙ sym (refuses-at 7 _ _ (failed (test .ok .ensures ∙ ap windowOk (w .ensures)) (c .before .if1 .taken)))
 
 full-search-requires : tie.Need-full-search-requires
 unfolding refineWindow
 full-search-requires c κs =
-    let at = c .before .before .before .before in
+    let at = c .before .before in
     let entry = at .before .before .before in
     let a = entry .args in
     let r = a .b .range in
@@ -91,26 +61,25 @@ full-search-requires c κs =
 done-requires : tie.Need-done-requires
 done-requires c κs = search needs
 
-returns-3 : tie.Need-returns-3
+returns-2 : tie.Need-returns-2
 unfolding windowAnswer refine
-returns-3 c =
+returns-2 c =
     let last = c .before .before in
-    let first = last .before .before in
-    let w = first .before .before .refine-window in
-    let a = first .before .before .before .before .before .args in
+    let test = last .before in
+    let w = test .before .refine-window in
+    let a = test .before .before .before .before .args in
     let found : MotionSearchResult → Found = λ m. foundOf (m .mv) (m .rd) in
     c .done .ensures ∙ ap found (c .before .full-search .ensures ∙ ap (fullSearch (rdAt (a .b) (now (a .cur)) (now (a .reference)) (a .weight))) (w .ensures))
-    ∙ sym (finds 8 _ _ (ap windowOk (sym (w .ensures)) ∙ some (w .result) (first .if1 .left) (last .if2 .left)))
+    ∙ sym (finds 8 _ _ (passed (test .ok .ensures ∙ ap windowOk (w .ensures)) (last .if1 .left)))
 
 pub refine-block-spec : {M : Type 1} → statement M
 refine-block-spec =
     tie.close
     (tie.spec
     refine-window-requires
+    ok-requires
     refuse-requires
     returns
-    refuse-requires-2
-    returns-2
     full-search-requires
     done-requires
-    returns-3)
+    returns-2)

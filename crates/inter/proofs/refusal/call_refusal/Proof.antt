@@ -1,10 +1,9 @@
 -- `inter::refusal::call_refusal` meets its contract.
 -- Assumes nothing.
 use borrow.Author.Needs.{needs}
-use mathlib.Core.Path.{sym, ap, _∙_}
-use Prim.Native.Nat.{ℕ}
+use mathlib.Core.Path.{sym, _∙_}
 use Rattle.inter.specs.Refusal.{_then_, callRefusal}
-use Rattle.inter.proofs.RefusalLaws.{accepted, then-first, then-later}
+use Rattle.inter.proofs.RefusalLaws.{accepted, first-is, then-later}
 use Rattle.inter.proofs.refusal.call_refusal.Statement.{statement}
 use Rattle.inter.proofs.refusal.call_refusal.Tie as tie
 
@@ -13,9 +12,7 @@ block-refusal-requires c κs = search needs
 
 returns : tie.Need-returns
 unfolding callRefusal
-returns c =
-    let b = c .before .block-refusal in
-    b .ensures ∙ sym (then-first _ _ (λ e. c .if1 .taken (b .ensures ∙ e)))
+returns c = first-is _ (c .before .block-refusal .ensures) (c .if1 .taken)
 
 planes-refusal-requires : tie.Need-planes-refusal-requires
 planes-refusal-requires c κs =

@@ -1,10 +1,11 @@
 -- `inter::refusal::grid_ok` meets its contract.
 -- Assumes nothing.
 use borrow.Author.Tests.{le-leb, lt-leb}
-use Prim.Native.Nat.{_*_, _/_, _≤_, _^_}
+use Prim.Native.Nat.{_/_, _^_}
 use native.Mathlib.Nat.{mul-le-mul}
 use native.Mathlib.Omega.{arith}
-use Rattle.inter.specs.Refusal.{cells, gridOk}
+use Rattle.predict.specs.Grid.{cells}
+use Rattle.inter.specs.Refusal.{gridOk}
 use Rattle.inter.proofs.refusal.grid_ok.Statement.{statement}
 use Rattle.inter.proofs.refusal.grid_ok.Tie as tie
 

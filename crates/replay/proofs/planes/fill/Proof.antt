@@ -1,26 +1,19 @@
--- `replay::planes::fill` is safe: the samples are as many as a plane has at most, and no coordinate is past their number.
+-- `replay::planes::fill` is safe: no coordinate is past the number of the sample.
 -- Assumes nothing.
-use Prim.Native.Nat.{_≤_, _-_, _*_}
+use Prim.Native.Nat.{_≤_, _-_}
 use mathlib.Core.Logic.{⊎-elim}
-use native.Mathlib.Nat.{mul-le-mul}
 use native.Mathlib.Omega.{arith}
 use Rattle.replay.proofs.planes.fill.Statement.{statement}
 use Rattle.replay.proofs.planes.fill.Tie as tie
 
 abbrev Inv-loop : tie.InvT-loop
-Inv-loop plane₀ stride rows content seed which samples x₀ y₀ i₀ plane x y i = (samples ≤ 232 * 232) × (i ≤ samples) × (x ≤ i) × (y ≤ i)
+Inv-loop plane₀ from to stride content seed which x₀ y₀ i₀ plane x y i = (x ≤ i) × (y ≤ i)
 
 abbrev μ-loop : tie.MeasureT-loop
-μ-loop plane₀ stride rows content seed which samples x₀ y₀ i₀ plane x y i = samples - i
-
-area : (c : tie.Start Inv-loop μ-loop) → c .args .stride * c .args .rows ≤ 232 * 232
-area c = mul-le-mul {n₂ = 232} {m₂ = 232} (omega arith) (omega arith)
-
-mul-samples : tie.Need-mul-samples Inv-loop μ-loop
-mul-samples c = omega (arith, area c)
+μ-loop plane₀ from to stride content seed which x₀ y₀ i₀ plane x y i = to - i
 
 loop-holds : tie.Need-loop-holds Inv-loop μ-loop
-loop-holds c = omega (arith, area c)
+loop-holds c = omega arith
 
 sample-requires : tie.Need-sample-requires Inv-loop μ-loop
 sample-requires c κs = omega arith
@@ -52,7 +45,6 @@ fill-spec =
     (tie.spec
     Inv-loop
     μ-loop
-    mul-samples
     loop-holds
     sample-requires
     element-write-plane

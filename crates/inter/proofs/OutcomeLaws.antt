@@ -1,0 +1,78 @@
+-- What a step, a run and a call for predictors answer: after a refusal its number and the grid as it stood, else what is defined.
+-- Assumes nothing.
+use mathlib.Core.Path.{_≡_, sym, ap, _∙_}
+use mathlib.Core.Bool.{true, false}
+use mathlib.Core.List.{List}
+use Prim.Native.Nat.{ℕ}
+use native.Mathlib.Omega.{arith}
+use borrow.Author.Tests.{eq-eqb, ne-eqb}
+use Rattle.motion.specs.Superblock.{superblocksAlong}
+use Rattle.predict.specs.declared.predictors.MotionEstimationSubsets.{MotionEstimationSubsets}
+use Rattle.predict.specs.Grid.{Grid}
+use Rattle.order.specs.List.{listRefusal}
+use Rattle.estimate.specs.Inputs.{inputsOf}
+use Rattle.frame.specs.Step.{windowsOk, step}
+use Rattle.frame.specs.Run.{Planes, frameRun}
+use Rattle.inter.specs.Refusal.{refuse, _then_}
+use Rattle.inter.specs.Grids.{previous}
+use Rattle.inter.specs.Predicting.{refusedPredictors, predictorsWith}
+use Rattle.inter.specs.Steps.{stepTests, stepRefusal, stepGrid}
+use Rattle.inter.specs.Runs.{runTests, runRefusal, runGrid}
+use Rattle.inter.proofs.RefusalLaws.{first-is, then-later}
+
+module _ (width height level n : ℕ) (cur ref : List ℕ) (present : ℕ) (prev g : Grid) where
+  -- a code, and the grid left with it, as a step has them
+  abbrev pub StepAnswer : ℕ → Grid → Type 0
+  StepAnswer code left =
+      (code ≡ stepRefusal width height level n cur ref present prev g)
+      × (left ≡ stepGrid width height level n cur ref present prev g)
+
+  step-stays : {code : ℕ} → code ≡ stepRefusal width height level n cur ref present prev g → (code ≡ 0 → ⊥) → StepAnswer code g
+  unfolding stepGrid
+  step-stays e h = (e, rw (ne-eqb _ 0 (λ z. h (e ∙ z))))
+
+  pub step-refused : {code : ℕ} → code ≡ stepTests width height level n cur ref present prev g → (code ≡ 0 → ⊥) → StepAnswer code g
+  unfolding stepRefusal
+  step-refused e h = step-stays (first-is _ e h) h
+
+  pub step-empty : {left : Grid} → stepTests width height level n cur ref present prev g ≡ 0 → windowsOk width height level n (g .rows) (g .cols) ≡ false → left ≡ step (inputsOf width height level cur ref 0) (previous present prev) n g → StepAnswer 8 left
+  unfolding stepRefusal refuse _then_ step
+  step-empty tests empty e =
+      let stays = step-stays {code = 8} (rw (tests, empty)) (λ z. absurd (omega arith)) in
+      (stays .0, e ∙ rw empty (stays .1))
+
+  pub step-done : {left : Grid} → stepTests width height level n cur ref present prev g ≡ 0 → windowsOk width height level n (g .rows) (g .cols) ≡ true → left ≡ step (inputsOf width height level cur ref 0) (previous present prev) n g → StepAnswer 0 left
+  unfolding stepRefusal refuse _then_ stepGrid
+  step-done tests some e =
+      let none : stepRefusal width height level n cur ref present prev g ≡ 0 = rw (tests, some) in
+      (sym none, e ∙ rw (eq-eqb _ 0 none))
+
+module _ (width height : ℕ) (cur ref : Planes) (present : ℕ) (prev : Grid) (list : List ℕ) (g : Grid) where
+  -- a code, and the grid left with it, as a run has them
+  abbrev pub RunAnswer : ℕ → Grid → Type 0
+  RunAnswer code left =
+      (code ≡ runRefusal width height cur ref present prev list g)
+      × (left ≡ runGrid width height cur ref present prev list g)
+
+  run-stays : {code : ℕ} → code ≡ runRefusal width height cur ref present prev list g → (code ≡ 0 → ⊥) → RunAnswer code g
+  unfolding runGrid
+  run-stays e h = (e, rw (ne-eqb _ 0 (λ z. h (e ∙ z))))
+
+  pub run-refused : {code : ℕ} → code ≡ runTests width height cur ref present prev g → (code ≡ 0 → ⊥) → RunAnswer code g
+  unfolding runRefusal
+  run-refused e h = run-stays (first-is _ e h) h
+
+  pub list-refused : {code : ℕ} → runTests width height cur ref present prev g ≡ 0 → code ≡ listRefusal (superblocksAlong width) (superblocksAlong height) list → (code ≡ 0 → ⊥) → RunAnswer code g
+  unfolding runRefusal
+  list-refused tests e h = run-stays (e ∙ sym (then-later _ _ tests)) h
+
+  pub run-done : {left : Grid} → runTests width height cur ref present prev g ≡ 0 → listRefusal (superblocksAlong width) (superblocksAlong height) list ≡ 0 → left ≡ frameRun width height cur ref 0 (previous present prev) list g → RunAnswer 0 left
+  unfolding runRefusal runGrid
+  run-done tests listed e =
+      let none : runRefusal width height cur ref present prev list g ≡ 0 = then-later _ _ tests ∙ listed in
+      (sym none, e ∙ rw (eq-eqb _ 0 none))
+
+-- the record of predictors of a number that is not 0
+pub predictors-refused : {code : ℕ} (number : ℕ) (p : MotionEstimationSubsets) → code ≡ number → (code ≡ 0 → ⊥) → refusedPredictors code ≡ predictorsWith number p
+unfolding predictorsWith
+predictors-refused number p e h = ap refusedPredictors e ∙ rw (ne-eqb number 0 (λ z. h (e ∙ z)))

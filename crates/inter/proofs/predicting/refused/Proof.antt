@@ -1,0 +1,14 @@
+-- `inter::predicting::refused` meets its contract.
+-- Assumes nothing.
+use mathlib.Core.Path.{refl}
+use Rattle.predict.specs.Slots.{slotted}
+use Rattle.inter.specs.Predicting.{refusedPredictors}
+use Rattle.inter.proofs.predicting.refused.Statement.{statement}
+use Rattle.inter.proofs.predicting.refused.Tie as tie
+
+returns : tie.Need-returns
+unfolding refusedPredictors slotted
+returns c = refl
+
+pub refused-spec : {M : Type 1} → statement M
+refused-spec = tie.close (tie.spec returns)

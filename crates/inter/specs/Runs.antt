@@ -1,0 +1,38 @@
+-- The frame run: its number, and the grid that it leaves.
+use Prim.Native.Nat.{ℕ}
+use mathlib.Core.Bool.{_&&_, cond}
+use mathlib.Core.List.{List}
+use lib.Dec.{eqb}
+use lib.ListN.{length}
+use Rattle.motion.specs.Superblock.{superblocksAlong}
+use Rattle.predict.specs.Grid.{Grid}
+use Rattle.frame.specs.Run.{Planes, planeAt, frameRun}
+use Rattle.order.specs.List.{listRefusal}
+use Rattle.inter.specs.Refusal.{refuse, _then_, sideOk, planesRefusal}
+use Rattle.inter.specs.Grids.{gridsHold, previous}
+
+-- 4: the two planes of a level
+unfoldable pub lentRefusal : ℕ → ℕ → Planes → Planes → ℕ → ℕ
+lentRefusal width height cur ref level =
+    planesRefusal width height level (length (planeAt cur level)) (length (planeAt ref level))
+
+-- numbers 1, 4 of all six planes, and 5
+unfoldable pub runTests : ℕ → ℕ → Planes → Planes → ℕ → Grid → Grid → ℕ
+runTests width height cur ref present prev g =
+    refuse 1 (sideOk width && sideOk height)
+    then lentRefusal width height cur ref 4
+    then lentRefusal width height cur ref 3
+    then lentRefusal width height cur ref 2
+    then refuse 5 (gridsHold width height present prev g)
+
+-- then 6 and 7, of the list
+unfoldable pub runRefusal : ℕ → ℕ → Planes → Planes → ℕ → Grid → List ℕ → Grid → ℕ
+runRefusal width height cur ref present prev list g =
+    runTests width height cur ref present prev g
+    then listRefusal (superblocksAlong width) (superblocksAlong height) list
+
+-- weight 0; after a refusal all cells stay
+unfoldable pub runGrid : ℕ → ℕ → Planes → Planes → ℕ → Grid → List ℕ → Grid → Grid
+runGrid width height cur ref present prev list g =
+    cond (eqb (runRefusal width height cur ref present prev list g) 0)
+    (frameRun width height cur ref 0 (previous present prev) list g) g

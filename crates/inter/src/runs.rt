@@ -1,0 +1,129 @@
+use crate::grids::grids_hold;
+use crate::refusal::planes_refusal;
+use crate::refusal::side_ok;
+use frame::run::frame_run;
+use motion::superblock::superblocks_along;
+use order::list::list_refusal;
+ghost use mathlib.Core.Path.{_≡_};
+ghost use Rattle.predict.specs.Grid.{gridOf};
+ghost use Rattle.frame.specs.Run.{planesOf};
+ghost use Rattle.inter.specs.Runs.{runTests, runRefusal, runGrid};
+
+// The tests of numbers 1, 4 and 5, in their order.
+fn run_tests(
+    width: usize,
+    height: usize,
+    cur: &[u8],
+    cur_half: &[u8],
+    cur_quarter: &[u8],
+    reference: &[u8],
+    ref_half: &[u8],
+    ref_quarter: &[u8],
+    present: usize,
+    prev_rows: &[i16],
+    prev_cols: &[i16],
+    prev_sads: &[u32],
+    rows: &[i16],
+    cols: &[i16],
+    sads: &[u32],
+) -> u32
+    ensures { λ r. ⌜ r ≡ runTests width height (planesOf (now (cur .entry)) (now («cur_half» .entry)) (now («cur_quarter» .entry))) (planesOf (now (reference .entry)) (now («ref_half» .entry)) (now («ref_quarter» .entry))) present (gridOf (now («prev_rows» .entry)) (now («prev_cols» .entry)) (now («prev_sads» .entry))) (gridOf (now (rows .entry)) (now (cols .entry)) (now (sads .entry))) ⌝ }
+{
+    if !side_ok(width) {
+        return 1;
+    }
+    if !side_ok(height) {
+        return 1;
+    }
+    if planes_refusal(width, height, 4, cur_quarter, ref_quarter) != 0 {
+        return 4;
+    }
+    if planes_refusal(width, height, 3, cur_half, ref_half) != 0 {
+        return 4;
+    }
+    if planes_refusal(width, height, 2, cur, reference) != 0 {
+        return 4;
+    }
+    if !grids_hold(
+        width,
+        height,
+        present,
+        prev_rows,
+        prev_cols,
+        prev_sads,
+        rows,
+        cols,
+        sads,
+    ) {
+        return 5;
+    }
+    0
+}
+
+#[no_mangle]
+pub extern "C" fn lockdapple_frame_run(
+    width: usize,
+    height: usize,
+    cur: &[u8],
+    cur_half: &[u8],
+    cur_quarter: &[u8],
+    reference: &[u8],
+    ref_half: &[u8],
+    ref_quarter: &[u8],
+    present: usize,
+    prev_rows: &[i16],
+    prev_cols: &[i16],
+    prev_sads: &[u32],
+    list: &[u16],
+    rows: &mut [i16],
+    cols: &mut [i16],
+    sads: &mut [u32],
+) -> u32
+    ensures { λ r. ⌜ r ≡ runRefusal width height (planesOf (now (cur .entry)) (now («cur_half» .entry)) (now («cur_quarter» .entry))) (planesOf (now (reference .entry)) (now («ref_half» .entry)) (now («ref_quarter» .entry))) present (gridOf (now («prev_rows» .entry)) (now («prev_cols» .entry)) (now («prev_sads» .entry))) (now (list .entry)) (gridOf (now (rows .entry)) (now (cols .entry)) (now (sads .entry))) ⌝ }
+    ensures { λ r. ⌜ gridOf (now (rows .exit)) (now (cols .exit)) (now (sads .exit)) ≡ runGrid width height (planesOf (now (cur .entry)) (now («cur_half» .entry)) (now («cur_quarter» .entry))) (planesOf (now (reference .entry)) (now («ref_half» .entry)) (now («ref_quarter» .entry))) present (gridOf (now («prev_rows» .entry)) (now («prev_cols» .entry)) (now («prev_sads» .entry))) (now (list .entry)) (gridOf (now (rows .entry)) (now (cols .entry)) (now (sads .entry))) ⌝ }
+{
+    let code = run_tests(
+        width,
+        height,
+        cur,
+        cur_half,
+        cur_quarter,
+        reference,
+        ref_half,
+        ref_quarter,
+        present,
+        prev_rows,
+        prev_cols,
+        prev_sads,
+        &*rows,
+        &*cols,
+        &*sads,
+    );
+    if code != 0 {
+        return code;
+    }
+    let number = list_refusal(superblocks_along(width), superblocks_along(height), list);
+    if number != 0 {
+        return number;
+    }
+    frame_run(
+        width,
+        height,
+        cur,
+        cur_half,
+        cur_quarter,
+        reference,
+        ref_half,
+        ref_quarter,
+        0,
+        present != 0,
+        prev_rows,
+        prev_cols,
+        prev_sads,
+        list,
+        rows,
+        cols,
+        sads,
+    );
+    0
+}
