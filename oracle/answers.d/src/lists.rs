@@ -12,7 +12,7 @@ const SADS: usize = 60;
 const CANDIDATES: usize = 100;
 
 /// The contents that the reader repeats, by their numbers.
-const EACH: [usize; 6] = [0, 1, 2, 3, 4, 5];
+pub const EACH: [usize; 6] = [0, 1, 2, 3, 4, 5];
 
 /// The largest side of a frame with planes, which keeps the reader's buffers small.
 const LARGEST: usize = 136;

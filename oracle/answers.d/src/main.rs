@@ -1,6 +1,7 @@
 //! Writes a fixed list of the published Rust's answers, for a program that has
 //! no Rust to ask.
 
+mod frames;
 mod lists;
 mod searches;
 
@@ -9,6 +10,7 @@ use std::{env, fs, path::Path, process::ExitCode};
 use oracle::Search;
 
 use crate::{
+    frames::frames,
     lists::{SEED, candidate, range, rate, sad},
     searches::{refine, search},
 };
@@ -82,6 +84,14 @@ fn main() -> ExitCode {
                 "What a refinement finds, at its level's shift.",
                 "width height level bx by content seed stored_row stored_col weight out_row out_col sad cost",
                 &refine(),
+            ),
+        ),
+        (
+            "frame.txt",
+            text(
+                "One cell that a frame run leaves, and a sum over all of its cells.",
+                "width height content seed present cell row col sad sum",
+                &frames(),
             ),
         ),
     ];

@@ -19,7 +19,7 @@ impl Frame {
                 (height >> s) as u64 + 2 * PAD[s] as u64,
             );
             (0..rows)
-                .flat_map(|y| (0..stride).map(move |x| sample(content, seed, which, x, y)))
+                .flat_map(|y| (0..stride).map(move |x| sample(content, seed, which, s, x, y)))
                 .collect()
         };
         Frame {
@@ -29,9 +29,9 @@ impl Frame {
         }
     }
 
-    /// The published routines over these planes, with no previous grid.
+    /// The published routines over these planes.
     pub fn oracle(&self) -> Oracle {
         let [cur, reference] = self.planes.each_ref().map(|p| p.each_ref().map(|v| &v[..]));
-        Oracle::new(self.width, self.height, cur, reference, None)
+        Oracle::new(self.width, self.height, cur, reference)
     }
 }

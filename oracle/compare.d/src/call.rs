@@ -6,6 +6,7 @@ use oracle::{BlockAt, PAD};
 use crate::{
     kind::Numbers,
     lend::LONGER,
+    planes::setting_of,
     refusal::Asked,
     scenes::{Scene, Setting},
 };
@@ -24,7 +25,7 @@ pub struct Call {
 }
 
 /// The shift whose planes are lent; at a level that there is not, the full size.
-fn shift(level: usize) -> usize {
+pub fn shift(level: usize) -> usize {
     match level {
         4 => 2,
         3 => 1,
@@ -81,15 +82,9 @@ impl Call {
         self
     }
 
-    /// The frame that the planes are of: the smallest where none is described.
+    /// The frame that the planes are of.
     pub fn setting(&self) -> Setting {
-        let valid = self.asked.frame_is_valid();
-        Setting {
-            width: if valid { self.asked.width } else { 8 },
-            height: if valid { self.asked.height } else { 8 },
-            content: self.content,
-            seed: self.seed,
-        }
+        setting_of(self.asked.width, self.asked.height, self.content, self.seed)
     }
 
     fn full_len(&self) -> usize {

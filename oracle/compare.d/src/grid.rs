@@ -1,14 +1,8 @@
-//! A grid as it is lent: a call's vector in the first cell of its block, anything
-//! in the others.
+//! A grid as it is lent, in three buffers.
 
-use cases::Random;
 use oracle::Grid;
 
-use crate::{
-    call::{Call, lengths},
-    kind::Numbers,
-    lend::Lent,
-};
+use crate::lend::Lent;
 
 pub struct LentGrid {
     pub cells: Grid,
@@ -19,49 +13,54 @@ pub struct LentGrid {
     sads: Lent<u32>,
 }
 
-/// The cells of the frame that the planes are of.
-fn count(call: &Call) -> usize {
-    let setting = call.setting();
-    setting.width / 4 * (setting.height / 4)
+/// A buffer's item that is not what it should be; its place counts from the
+/// buffer's start.
+pub struct Difference {
+    pub buffer: &'static str,
+    pub place: isize,
+    pub should: i128,
+    pub is: i128,
+}
+
+fn difference<T>(
+    buffer: &'static str,
+    lent: &Lent<T>,
+    guarded: bool,
+    should: &[T],
+) -> Option<Difference>
+where
+    T: Copy + From<u8> + PartialEq,
+    i128: From<T>,
+{
+    let (place, should, is) = lent.first_difference(guarded, should)?;
+    Some(Difference {
+        buffer,
+        place,
+        should: should.into(),
+        is: is.into(),
+    })
 }
 
 impl LentGrid {
-    /// The names of the numbers.
-    pub const COLUMNS: [&'static str; 4] = ["rows_len", "cols_len", "sads_len", "cells_seed"];
-
-    /// The numbers of a grid for `call`.
-    pub fn draw(random: &mut Random, call: &Call) -> Vec<i128> {
-        let lens: [usize; 3] = lengths(random, call.guarded, count(call));
-        let mut numbers = lens.map(|len| len as i128).to_vec();
-        numbers.push(random.below(1 << 32) as i128);
-        numbers
+    /// A grid that is only read.
+    pub fn new(cells: Grid, lens: [usize; 3]) -> Self {
+        LentGrid {
+            lens,
+            rows: Lent::new(&cells.rows),
+            cols: Lent::new(&cells.cols),
+            sads: Lent::new(&cells.sads),
+            cells,
+        }
     }
 
-    pub fn take(numbers: &mut Numbers<'_>, call: &Call) -> Option<Self> {
-        let lens = [numbers.take()?, numbers.take()?, numbers.take()?];
-        let mut random = Random::new(numbers.take()?);
-        let words: Vec<u64> = (0..count(call)).map(|_| random.word()).collect();
-        let mut cells = Grid {
-            rows: words.iter().map(|&word| word as i16).collect(),
-            cols: words.iter().map(|&word| (word >> 16) as i16).collect(),
-            sads: words.iter().map(|&word| (word >> 32) as u32).collect(),
-        };
-        if call.asked.refusal() == 0 {
-            let first = call.asked.by * (call.asked.width / 4) + call.asked.bx;
-            (cells.rows[first], cells.cols[first]) = (call.row, call.col);
-        }
-        let (rows, cols, sads) = (
-            Lent::new(&cells.rows),
-            Lent::new(&cells.cols),
-            Lent::new(&cells.sads),
-        );
-        Some(LentGrid {
-            cells,
+    pub fn writable(cells: Grid, lens: [usize; 3]) -> Self {
+        LentGrid {
             lens,
-            rows,
-            cols,
-            sads,
-        })
+            rows: Lent::writable(&cells.rows),
+            cols: Lent::writable(&cells.cols),
+            sads: Lent::writable(&cells.sads),
+            cells,
+        }
     }
 
     /// Rows, columns and SADs, or None where the grid has none so long.
@@ -71,5 +70,20 @@ impl LentGrid {
             self.cols.lend(guarded, self.lens[1])?,
             self.sads.lend(guarded, self.lens[2])?,
         ))
+    }
+
+    pub fn buffers_mut(&mut self, guarded: bool) -> Option<(&mut [i16], &mut [i16], &mut [u32])> {
+        Some((
+            self.rows.lend_mut(guarded, self.lens[0])?,
+            self.cols.lend_mut(guarded, self.lens[1])?,
+            self.sads.lend_mut(guarded, self.lens[2])?,
+        ))
+    }
+
+    /// The first item that is not as in `should`, or round it not as before.
+    pub fn first_difference(&self, guarded: bool, should: &Grid) -> Option<Difference> {
+        difference("row", &self.rows, guarded, &should.rows)
+            .or_else(|| difference("col", &self.cols, guarded, &should.cols))
+            .or_else(|| difference("sad", &self.sads, guarded, &should.sads))
     }
 }

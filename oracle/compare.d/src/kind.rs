@@ -3,17 +3,7 @@
 use cases::Random;
 use oracle::BlockAt;
 
-use crate::{
-    kinds::{
-        candidate::Candidate,
-        range::Range,
-        rate::Rate,
-        refine::Refine,
-        sad::Sad,
-        search::{DIAMOND, HEXAGON, MULTI_HEXAGON},
-    },
-    scenes::{Scenes, Setting},
-};
+use crate::scenes::{Scenes, Setting};
 
 /// One kind. A case is its numbers and nothing else, so any case can be replayed.
 pub trait Kind {
@@ -29,18 +19,6 @@ pub trait Kind {
     fn run(&self, numbers: &mut Numbers<'_>, scenes: &mut Scenes) -> Option<Outcome>;
 }
 
-/// Every kind there is.
-pub const KINDS: [&dyn Kind; 8] = [
-    &Rate,
-    &Range,
-    &Sad,
-    &Candidate,
-    &DIAMOND,
-    &HEXAGON,
-    &MULTI_HEXAGON,
-    &Refine,
-];
-
 /// Named values, in the order in which they are compared.
 pub type Answer = Vec<(&'static str, i128)>;
 
@@ -55,6 +33,10 @@ pub struct Outcome {
     pub guarded: bool,
     /// The block, where one was worked on.
     pub block: Option<BlockAt>,
+    /// The cells of a grid that was written and compared.
+    pub cells: usize,
+    /// What else the case had, each a word for what and one for which.
+    pub seen: Vec<(&'static str, &'static str)>,
 }
 
 /// A case's numbers, taken one by one.

@@ -1,9 +1,31 @@
 //! The kinds of case, one file each but for the searches, and what they share.
 
-pub mod candidate;
-pub mod found;
-pub mod range;
-pub mod rate;
-pub mod refine;
-pub mod sad;
-pub mod search;
+mod candidate;
+mod found;
+mod predictors;
+mod range;
+mod rate;
+mod refine;
+mod run;
+mod sad;
+mod search;
+mod step;
+mod written;
+
+use crate::kind::Kind;
+
+/// Every kind there is, with its cases in a round: a run costs as much as many
+/// of the others.
+pub const KINDS: [(&dyn Kind, usize); 11] = [
+    (&rate::Rate, 4),
+    (&range::Range, 4),
+    (&sad::Sad, 4),
+    (&candidate::Candidate, 4),
+    (&search::DIAMOND, 4),
+    (&search::HEXAGON, 4),
+    (&search::MULTI_HEXAGON, 4),
+    (&refine::Refine, 4),
+    (&predictors::Predictors, 8),
+    (&step::Step, 6),
+    (&run::Run, 4),
+];

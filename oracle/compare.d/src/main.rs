@@ -3,9 +3,11 @@
 
 mod call;
 mod grid;
+mod grids;
 mod kind;
 mod kinds;
 mod lend;
+mod planes;
 mod proved;
 mod refusal;
 mod scenes;
@@ -22,13 +24,14 @@ use std::{
 use cases::Random;
 
 use crate::{
-    kind::{Answer, KINDS, Kind, Numbers, Outcome},
+    kind::{Answer, Kind, Numbers, Outcome},
+    kinds::KINDS,
     scenes::{Scenes, Setting},
     tally::Tally,
 };
 
 /// Cases in turn that share a frame.
-const CASES_PER_FRAME: usize = 16;
+const CASES_PER_FRAME: usize = 6;
 
 fn usage(why: &str) -> ExitCode {
     eprintln!("compare: {why}");
@@ -36,9 +39,17 @@ fn usage(why: &str) -> ExitCode {
 }
 
 fn find(name: &str) -> Result<&'static dyn Kind, String> {
-    let kind = KINDS.into_iter().find(|kind| kind.name() == name);
-    let names: Vec<_> = KINDS.iter().map(|kind| kind.name()).collect();
+    let mut kinds = KINDS.map(|(kind, _)| kind).into_iter();
+    let names: Vec<_> = kinds.clone().map(|kind| kind.name()).collect();
+    let kind = kinds.find(|kind| kind.name() == name);
     kind.ok_or(format!("no kind {name:?}; there are {}", names.join(", ")))
+}
+
+/// The kinds in turn, each as often as its share says.
+fn round() -> Vec<&'static dyn Kind> {
+    let most = KINDS.iter().map(|(_, share)| *share).max().unwrap_or(0);
+    let turn = |turn| KINDS.iter().filter(move |(_, share)| turn < *share);
+    (0..most).flat_map(turn).map(|(kind, _)| *kind).collect()
 }
 
 fn replay_line(kind: &dyn Kind, numbers: &[i128]) -> String {
@@ -128,7 +139,7 @@ fn main() -> ExitCode {
                 (_, Err(_)) => usage("a case is whole numbers"),
             };
         }
-        ["--seed", seed, "--cases", cases] => (seed, cases, Ok(KINDS.to_vec())),
+        ["--seed", seed, "--cases", cases] => (seed, cases, Ok(round())),
         ["--seed", seed, "--cases", cases, "--kind", kind] => {
             (seed, cases, find(kind).map(|k| vec![k]))
         }

@@ -14,12 +14,17 @@ pub struct Setting {
     pub seed: u64,
 }
 
+/// The contents on which stages of a search come close to each other: plateaus
+/// and the last three.
+const CLOSE: [usize; 4] = [5, 8, 9, 10];
+
 impl Setting {
     pub fn draw(random: &mut Random) -> Self {
+        let (any, close) = (random.below(CONTENTS.len()), random.pick(&CLOSE));
         Setting {
             width: side(random),
             height: side(random),
-            content: random.below(CONTENTS.len()),
+            content: random.pick(&[any, any, close]),
             seed: random.word() % SEEDS,
         }
     }
@@ -50,12 +55,12 @@ impl Scene {
     }
 }
 
-/// Keeps the last two scenes, since many cases in turn are of one frame, but for
-/// those that describe none and get the smallest.
+/// Keeps the last three scenes, since many cases in turn are of one frame, but
+/// for those that describe none and get the smallest, and for runs before.
 #[derive(Default)]
 pub struct Scenes(Vec<(Setting, Scene)>);
 
-const KEPT: usize = 2;
+const KEPT: usize = 3;
 
 impl Scenes {
     pub fn get(&mut self, setting: Setting) -> &Scene {

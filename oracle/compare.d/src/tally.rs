@@ -11,6 +11,9 @@ pub struct Tally {
     kinds: BTreeMap<&'static str, usize>,
     contents: [usize; CONTENTS.len()],
     guarded: usize,
+    cells: usize,
+    /// What else there was, by kind.
+    seen: BTreeMap<(&'static str, &'static str, &'static str), usize>,
     refusals: BTreeMap<u32, usize>,
     /// Cropped widths and heights by level and by whether refined.
     sizes: BTreeMap<(usize, bool), BTreeSet<(usize, usize)>>,
@@ -23,6 +26,10 @@ impl Tally {
             self.contents[content] += 1;
         }
         self.guarded += usize::from(outcome.guarded);
+        self.cells += outcome.cells;
+        for &(what, which) in &outcome.seen {
+            *self.seen.entry((kind, what, which)).or_default() += 1;
+        }
         if outcome.refusal != 0 {
             *self.refusals.entry(outcome.refusal).or_default() += 1;
         }
@@ -39,6 +46,10 @@ impl Tally {
         for (content, cases) in CONTENTS.iter().zip(self.contents) {
             println!("content {content}: {cases}");
         }
+        for ((kind, what, which), cases) in &self.seen {
+            println!("{kind}, {what} {which}: {cases}");
+        }
+        println!("cells written and compared: {}", self.cells);
         println!("buffers that end at an unreadable page: {}", self.guarded);
         for (number, cases) in &self.refusals {
             println!("refused {number}: {cases}");

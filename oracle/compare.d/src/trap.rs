@@ -1,5 +1,5 @@
-//! Says which case was under way when a read outside a plane, or a panic of the
-//! published Rust, ends the run.
+//! Says which case was under way when a read outside what is lent, a write to
+//! what is lent to be read, or a panic of the published Rust, ends the run.
 
 use std::{
     panic,
@@ -15,8 +15,11 @@ unsafe extern "C" {
 /// SIGBUS and SIGSEGV as Linux numbers them.
 const SIGNALS: [i32; 2] = [7, 11];
 
+/// No line that replays a case is longer.
+const LONGEST: usize = 1_024;
+
 /// Atomics, since a handler may take no lock.
-static LINE: [AtomicU8; 512] = [const { AtomicU8::new(0) }; 512];
+static LINE: [AtomicU8; LONGEST] = [const { AtomicU8::new(0) }; LONGEST];
 static LEN: AtomicUsize = AtomicUsize::new(0);
 
 /// Notes the line that replays the case about to be run.
@@ -28,7 +31,7 @@ pub fn under_way(replay: &str) {
 }
 
 fn say(why: &str) {
-    let mut line = [0; 512];
+    let mut line = [0; LONGEST];
     for (byte, slot) in line.iter_mut().zip(&LINE) {
         *byte = slot.load(Relaxed);
     }
@@ -39,7 +42,7 @@ fn say(why: &str) {
 }
 
 extern "C" fn on_signal(_: i32) {
-    say("a read outside the lent memory\n  replay: ");
+    say("a read outside the lent memory, or a write that is not allowed\n  replay: ");
     // SAFETY: ends the process.
     unsafe { _exit(1) }
 }

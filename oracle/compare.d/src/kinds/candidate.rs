@@ -78,6 +78,8 @@ impl Kind for Candidate {
             content: Some(call.content),
             guarded: call.guarded,
             block,
+            cells: 0,
+            seen: Vec::new(),
         })
     }
 }

@@ -70,6 +70,8 @@ impl Kind for Range {
             content: None,
             guarded: false,
             block,
+            cells: 0,
+            seen: Vec::new(),
         })
     }
 }

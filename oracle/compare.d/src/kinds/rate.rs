@@ -45,6 +45,8 @@ impl Kind for Rate {
             content: None,
             guarded: false,
             block: None,
+            cells: 0,
+            seen: Vec::new(),
         })
     }
 }

@@ -1,10 +1,10 @@
 //! One refinement, and the refusals 1 to 5 and 8. The vector of a call is the
 //! stored one.
 
-use cases::{Random, mostly_between, refined_block, stored_ends};
+use cases::{CELL_SEEDS, Random, cells, mostly_between, refined_block, stored_ends};
 
 use crate::{
-    call::Call,
+    call::{Call, lengths},
     grid::LentGrid,
     kind::{Answer, Kind, Numbers, Outcome},
     kinds::found::expected,
@@ -14,6 +14,19 @@ use crate::{
 };
 
 pub struct Refine;
+
+/// The grid of a call: its vector in the first cell of its block, anything in
+/// the others.
+fn grid(numbers: &mut Numbers<'_>, call: &Call) -> Option<LentGrid> {
+    let lens = [numbers.take()?, numbers.take()?, numbers.take()?];
+    let setting = call.setting();
+    let mut grid = cells(0, numbers.take()?, setting.width, setting.height);
+    if call.asked.refusal() == 0 {
+        let first = call.asked.by * (call.asked.width / 4) + call.asked.bx;
+        (grid.rows[first], grid.cols[first]) = (call.row, call.col);
+    }
+    Some(LentGrid::new(grid, lens))
+}
 
 fn proved(call: &Call, scene: &Scene, grid: &LentGrid) -> Option<Answer> {
     let [cur, reference] = call.planes(scene)?;
@@ -58,7 +71,8 @@ impl Kind for Refine {
     }
 
     fn columns(&self) -> Vec<&'static str> {
-        [Call::columns(), LentGrid::COLUMNS.to_vec()].concat()
+        let grid = ["rows_len", "cols_len", "sads_len", "cells_seed"];
+        [&Call::columns()[..], &grid].concat()
     }
 
     fn draw(&self, random: &mut Random, setting: &Setting) -> Vec<i128> {
@@ -73,8 +87,13 @@ impl Kind for Refine {
         let mut call = Call::new(random, setting, at, row, col).vary(random);
         // A refinement is not asked for any other block.
         call.asked.refined = 1;
-        let grid = LentGrid::draw(random, &call);
-        [call.numbers(), grid].concat()
+        let lent = call.setting();
+        let full = lent.width / 4 * (lent.height / 4);
+        let lens: [usize; 3] = lengths(random, call.guarded, full);
+        let mut numbers = call.numbers();
+        numbers.extend(lens.map(|len| len as i128));
+        numbers.push((random.word() % CELL_SEEDS).into());
+        numbers
     }
 
     fn run(&self, numbers: &mut Numbers<'_>, scenes: &mut Scenes) -> Option<Outcome> {
@@ -82,7 +101,7 @@ impl Kind for Refine {
         if call.asked.refined != 1 {
             return None;
         }
-        let grid = LentGrid::take(numbers, &call)?;
+        let grid = grid(numbers, &call)?;
         let stored = [call.row, call.col];
         let refusal = call
             .asked
@@ -97,6 +116,8 @@ impl Kind for Refine {
             content: Some(call.content),
             guarded: call.guarded,
             block,
+            cells: 0,
+            seen: Vec::new(),
         })
     }
 }

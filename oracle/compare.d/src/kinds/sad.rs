@@ -65,6 +65,8 @@ impl Kind for Sad {
             content: Some(call.content),
             guarded: call.guarded,
             block: Some(at),
+            cells: 0,
+            seen: Vec::new(),
         })
     }
 }

@@ -108,6 +108,8 @@ impl Kind for Search {
             content: Some(call.content),
             guarded: call.guarded,
             block,
+            cells: 0,
+            seen: Vec::new(),
         })
     }
 }

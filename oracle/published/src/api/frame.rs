@@ -1,4 +1,4 @@
-//! Two frames and a previous grid in the published containers; runs and steps.
+//! Two frames in the published containers; runs and steps.
 
 use std::sync::Arc;
 
@@ -25,24 +25,17 @@ use crate::{
 /// The one reference that the published text searches.
 pub const REFERENCE: RefType = RefType::LAST_FRAME;
 
-/// Two frames and a previous grid, ready for the published routines.
+/// Two frames, ready for the published routines.
 pub struct Oracle {
     width: usize,
     height: usize,
     pub(super) fi: FrameInvariants<u8>,
     fs: FrameState<u8>,
-    previous: bool,
 }
 
 impl Oracle {
     /// Planes at full, half and quarter size with document 01's padding.
-    pub fn new(
-        width: usize,
-        height: usize,
-        cur: [&[u8]; 3],
-        reference: [&[u8]; 3],
-        previous: Option<&Grid>,
-    ) -> Self {
+    pub fn new(width: usize, height: usize, cur: [&[u8]; 3], reference: [&[u8]; 3]) -> Self {
         let plane = |lent: [&[u8]; 3], s: usize| embed(lent[s], width, height, s);
         let frame = |lent| {
             Arc::new(Frame {
@@ -54,15 +47,11 @@ impl Oracle {
         let key = FrameInvariants::new_key_frame(width, height);
         let mut fi = FrameInvariants::new_inter_frame(&key, 1).unwrap();
         let slot = fi.ref_frames[REFERENCE.to_index()] as usize;
-        let stats = FrameMEStats::new_arc_array(width / MI_SIZE, height / MI_SIZE);
-        if let Some(grid) = previous {
-            fill(&mut stats.write().unwrap()[REFERENCE.to_index()], grid);
-        }
         fi.rec_buffer.frames[slot] = Some(Arc::new(ReferenceFrame {
             frame: frame(reference),
             input_hres: Arc::new(plane(reference, 1)),
             input_qres: Arc::new(plane(reference, 2)),
-            frame_me_stats: stats,
+            frame_me_stats: FrameMEStats::new_arc_array(width / MI_SIZE, height / MI_SIZE),
         }));
 
         let fs = FrameState {
@@ -76,7 +65,6 @@ impl Oracle {
             height,
             fi,
             fs,
-            previous: previous.is_some(),
         }
     }
 
@@ -85,10 +73,14 @@ impl Oracle {
         TileStateMut::new(&self.fs, origin, self.width, self.height, stats)
     }
 
+    fn slot(&self) -> &ReferenceFrame<u8> {
+        let slot = self.fi.ref_frames[REFERENCE.to_index()] as usize;
+        self.fi.rec_buffer.frames[slot].as_ref().unwrap()
+    }
+
     /// The reference plane at shift `ssdec`.
     pub(super) fn reference(&self, ssdec: u8) -> &Plane<u8> {
-        let slot = self.fi.ref_frames[REFERENCE.to_index()] as usize;
-        let rec = self.fi.rec_buffer.frames[slot].as_ref().unwrap();
+        let rec = self.slot();
         [&rec.frame.y_plane, &rec.input_hres, &rec.input_qres][usize::from(ssdec)]
     }
 
@@ -98,31 +90,43 @@ impl Oracle {
     }
 
     /// Runs `body` on a tile over a copy of `grid`; gives `body`'s answer and
-    /// the grid afterwards.
+    /// the grid afterwards. The slot keeps the last previous grid that it was
+    /// given, so that one that is absent still has contents.
     pub(super) fn on_grid<R>(
         &self,
         grid: &Grid,
+        previous: Option<&Grid>,
         body: impl FnOnce(&mut TileStateMut<'_, u8>) -> R,
     ) -> (R, Grid) {
+        if let Some(cells) = previous {
+            let mut stats = self.slot().frame_me_stats.write().unwrap();
+            fill(&mut stats[REFERENCE.to_index()], cells);
+        }
         let mut stats = [FrameMEStats::new(
             self.width / MI_SIZE,
             self.height / MI_SIZE,
         )];
         fill(&mut stats[0], grid);
-        let answer = hooks::with_previous(self.previous, || body(&mut self.tile(&mut stats)));
+        let answer = hooks::with_previous(previous.is_some(), || body(&mut self.tile(&mut stats)));
         (answer, read(&stats[0]))
     }
 
     /// `estimate_tile_motion`: every level, superblocks in raster order.
-    pub fn frame_run(&self, grid: &Grid) -> Grid {
+    pub fn frame_run(&self, grid: &Grid, previous: Option<&Grid>) -> Grid {
         let run =
             |ts: &mut TileStateMut<'_, u8>| inter::estimate_tile_motion(&self.fi, ts, BIT_DEPTH);
-        self.on_grid(grid, run).1
+        self.on_grid(grid, previous, run).1
     }
 
     /// One superblock at one level, at the weight of a run:
     /// `refine_subsampled_sb_motion` (levels 3 and 2), then `estimate_sb_motion`.
-    pub fn superblock_step(&self, level: usize, superblock: usize, grid: &Grid) -> Grid {
+    pub fn superblock_step(
+        &self,
+        level: usize,
+        superblock: usize,
+        grid: &Grid,
+        previous: Option<&Grid>,
+    ) -> Grid {
         let across = self.width.div_ceil(SB_SIZE);
         let (sbx, sby) = (superblock % across, superblock / across);
         let tile_bo = TileSuperBlockOffset(SuperBlockOffset { x: sbx, y: sby }).block_offset(0, 0);
@@ -153,6 +157,6 @@ impl Oracle {
                 fi, ts, REFERENCE, level, tile_bo, init, ssdec, lambda, BIT_DEPTH,
             );
         };
-        self.on_grid(grid, step).1
+        self.on_grid(grid, previous, step).1
     }
 }

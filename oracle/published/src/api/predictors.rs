@@ -29,7 +29,7 @@ fn pair(mv: &MotionVector) -> (i16, i16) {
 impl Oracle {
     /// `get_subset_predictors` as `full_pixel_me` calls it, with the threshold
     /// that `full_pixel_me` works out at level 4.
-    pub fn predictors(&self, at: &BlockAt, grid: &Grid) -> Predictors {
+    pub fn predictors(&self, at: &BlockAt, grid: &Grid, previous: Option<&Grid>) -> Predictors {
         self.check(at);
         let ((w, h), ssdec) = (at.size(), at.ssdec());
         let MvRange {
@@ -67,7 +67,7 @@ impl Oracle {
                 ssdec,
             )
         };
-        let subsets = self.on_grid(grid, ask).0;
+        let subsets = self.on_grid(grid, previous, ask).0;
         let six_fifths = (subsets.min_sad as f32 * 1.2) as u32;
         Predictors {
             centre: subsets.median.as_ref().map(pair),

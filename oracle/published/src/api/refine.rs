@@ -22,7 +22,7 @@ impl Oracle {
             )
             .unwrap()
         };
-        let found = Found::from(self.on_grid(grid, refine).0);
+        let found = Found::from(self.on_grid(grid, None, refine).0);
         Found {
             row: found.row >> ssdec,
             col: found.col >> ssdec,
