@@ -33,11 +33,12 @@ fn level_run(
 {
     let mut k = 0;
     while k < list.len() {
+        let superblock = list[k] as usize;
         superblock_step(
             width,
             height,
             level,
-            list[k] as usize,
+            superblock,
             cur,
             reference,
             lambda,

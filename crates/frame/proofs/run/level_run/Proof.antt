@@ -55,14 +55,14 @@ loop-holds c =
     let e = c .before .before .before .before .before in
     (omega arith, sym (run-none (inputs e) (previous e) (first e)))
 
-mul-superblock-step : tie.Need-mul-superblock-step Inv-loop μ-loop
-mul-superblock-step c = search needs
+mul-superblock : tie.Need-mul-superblock Inv-loop μ-loop
+mul-superblock c = search needs
 
-shared-slice-read-superblock-step : tie.Need-shared-slice-read-superblock-step Inv-loop μ-loop
-shared-slice-read-superblock-step c = search needs
+shared-slice-read-superblock : tie.Need-shared-slice-read-superblock Inv-loop μ-loop
+shared-slice-read-superblock c = search needs
 
-cast-superblock-step : tie.Need-cast-superblock-step Inv-loop μ-loop
-cast-superblock-step c = omega (arith, c .shared-slice-known5 .given (c .before .before .loop .k))
+cast-superblock : tie.Need-cast-superblock Inv-loop μ-loop
+cast-superblock c = omega (arith, c .shared-slice-known5 .given (c .before .before .loop .k))
 
 superblock-step-requires : tie.Need-superblock-step-requires Inv-loop μ-loop
 superblock-step-requires c κs =
@@ -112,9 +112,9 @@ level-run-spec =
     Inv-loop
     μ-loop
     loop-holds
-    mul-superblock-step
-    shared-slice-read-superblock-step
-    cast-superblock-step
+    mul-superblock
+    shared-slice-read-superblock
+    cast-superblock
     superblock-step-requires
     add-k
     loop-less
