@@ -1,23 +1,20 @@
+use crate::grids::MOST_CELLS;
+use crate::grids::previous;
+use crate::grids::sum;
 use crate::lines::Line;
-use crate::numbers::component;
 use crate::planes::LARGEST_PLANE;
 use crate::planes::fill;
 use crate::planes::padded;
 use crate::sample::CONTENTS;
-use crate::sample::PRIME;
 use crate::sample::SEEDS;
 use crate::tally::Outcome;
 use crate::tally::equal_if;
 use inter::runs::lockdapple_frame_run;
-use motion::rate::magnitude;
 ghost use Prim.Native.Nat.{_≤_, _<_};
 ghost use lib.ListN.{length};
 
 // No frame that is run has a longer side.
 const LONGEST: usize = 72;
-
-// Nor more cells.
-const MOST_CELLS: usize = 324;
 
 // Where a frame's half-size plane starts in its buffer: past the full-size one of the largest frame.
 const HALF: usize = 28224;
@@ -27,9 +24,6 @@ const QUARTER: usize = 41680;
 
 // What the cells hold before a run, and after none.
 const BEFORE: i16 = 32767;
-
-// The size of the lowest component.
-const LOWEST: u64 = 32768;
 
 // A run in raster order over the frames of a content and a seed, with a previous grid (1) or without (0).
 struct Run {
@@ -99,30 +93,6 @@ fn draw(run: Run, which: u64, frame: &mut [u8; LARGEST_PLANE])
     fill(frame, 0, HALF, full, content, seed, which);
     fill(frame, HALF, QUARTER, half, content, seed, which);
     fill(frame, QUARTER, LARGEST_PLANE, quarter, content, seed, which);
-}
-
-fn minus(n: u64, middle: u64) -> i16 {
-    if n < middle {
-        component(true, middle - n)
-    } else {
-        component(false, n - middle)
-    }
-}
-
-// The previous grid, as the published Rust was given it.
-fn previous(
-    rows: &mut [i16; MOST_CELLS],
-    cols: &mut [i16; MOST_CELLS],
-    sads: &mut [u32; MOST_CELLS],
-) {
-    let mut i: usize = 0;
-    while i < MOST_CELLS {
-        let n = i as u64;
-        rows[i] = minus(n * 37 % 257, 128);
-        cols[i] = minus(n * 91 % 385, 192);
-        sads[i] = (n * 7919 % 65536) as u32;
-        i += 1;
-    }
 }
 
 // This part and the next are taken in functions of their own: among the many arguments of a run they are slow to prove.
@@ -203,47 +173,6 @@ fn ran(
         cols,
         sads,
     )
-}
-
-// A component as a number that is not negative: 32768 more.
-fn raised(v: i16) -> u64
-    ensures { λ r. ⌜ r ≤ 65536 ⌝ }
-{
-    let size = magnitude(v) as u64;
-    if v < 0 { LOWEST - size } else { LOWEST + size }
-}
-
-fn folded(sum: u64, n: u64) -> u64
-    requires { ⌜ (sum < 2147483647) × (n < 4294967296) ⌝ }
-    ensures { λ r. ⌜ r < 2147483647 ⌝ }
-{
-    (sum * 65599 + n) % PRIME
-}
-
-fn cell_folded(sum: u64, row: i16, col: i16, sad: u32) -> u64
-    requires { ⌜ sum < 2147483647 ⌝ }
-    ensures { λ r. ⌜ r < 2147483647 ⌝ }
-{
-    let with_row = folded(sum, raised(row));
-    let with_col = folded(with_row, raised(col));
-    folded(with_col, sad as u64)
-}
-
-fn sum(
-    count: usize,
-    rows: &[i16; MOST_CELLS],
-    cols: &[i16; MOST_CELLS],
-    sads: &[u32; MOST_CELLS],
-) -> u64
-    requires { ⌜ count ≤ 324 ⌝ }
-{
-    let mut sum: u64 = 0;
-    let mut i = 0;
-    while i < count {
-        sum = cell_folded(sum, rows[i], cols[i], sads[i]);
-        i += 1;
-    }
-    sum
 }
 
 fn same(left: Left, row: i16, col: i16, sad: u32, sum: u64) -> Outcome {

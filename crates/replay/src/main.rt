@@ -8,6 +8,7 @@
 mod calls;
 mod cases;
 mod frames;
+mod grids;
 mod lines;
 mod numbers;
 mod planes;

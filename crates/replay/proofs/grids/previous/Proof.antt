@@ -1,9 +1,9 @@
--- `replay::frames::previous` is safe: a cell is below 324.
+-- `replay::grids::previous` is safe: a cell is below 324.
 -- Assumes nothing.
 use Prim.Native.Nat.{_≤_, _-_}
 use native.Mathlib.Omega.{arith}
-use Rattle.replay.proofs.frames.previous.Statement.{statement}
-use Rattle.replay.proofs.frames.previous.Tie as tie
+use Rattle.replay.proofs.grids.previous.Statement.{statement}
+use Rattle.replay.proofs.grids.previous.Tie as tie
 
 abbrev Inv-loop : tie.InvT-loop
 Inv-loop rows₀ cols₀ sads₀ i₀ rows cols sads i = i ≤ 324

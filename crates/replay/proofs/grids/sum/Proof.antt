@@ -1,9 +1,9 @@
--- `replay::frames::sum` is safe: a cell is below 324, and the sum stays below the prime.
+-- `replay::grids::sum` is safe: a cell is below 324, and the sum stays below the prime.
 -- Assumes nothing.
 use Prim.Native.Nat.{_≤_, _<_, _-_}
 use native.Mathlib.Omega.{arith}
-use Rattle.replay.proofs.frames.sum.Statement.{statement}
-use Rattle.replay.proofs.frames.sum.Tie as tie
+use Rattle.replay.proofs.grids.sum.Statement.{statement}
+use Rattle.replay.proofs.grids.sum.Tie as tie
 
 abbrev Inv-loop : tie.InvT-loop
 Inv-loop count rows cols sads sum₀ i₀ sum i = (i ≤ count) × (sum < 2147483647)
