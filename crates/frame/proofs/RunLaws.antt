@@ -16,7 +16,7 @@ module _ (i : Inputs) (p : Previous) where
   unfolding levelRun
   run-none g = refl
 
-  run-last : (ns : List ℕ) (n : ℕ) (g : Grid) → levelRun i p (ns ++ (n ∷ [])) g ≡ step i p n (levelRun i p ns g)
+  pub run-last : (ns : List ℕ) (n : ℕ) (g : Grid) → levelRun i p (ns ++ (n ∷ [])) g ≡ step i p n (levelRun i p ns g)
   unfolding levelRun
   run-last [] n g = refl
   run-last (m ∷ ns) n g = run-last ns n (step i p m g)

@@ -5,4 +5,5 @@ pub mod TimesLaws
 pub mod OrderLaws
 pub mod PassLaws
 pub mod Accepted
+pub mod FoldLaws
 pub mod Examples

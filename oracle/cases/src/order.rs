@@ -3,8 +3,8 @@
 use crate::Random;
 
 /// Those up to `ACCEPTED` name each superblock once, with no pair that shares an
-/// edge against raster order. In a frame of one superblock others may as well.
-pub const ORDERS: [&str; 15] = [
+/// edge against raster order. Others may as well, as in a frame of one superblock.
+pub const ORDERS: [&str; 18] = [
     "raster",
     "any accepted",
     "by columns",
@@ -20,6 +20,9 @@ pub const ORDERS: [&str; 15] = [
     "empty",
     "duplicate and swapped pair",
     "longer and swapped pair",
+    "next two swapped",
+    "any two swapped",
+    "any numbers",
 ];
 
 pub const ACCEPTED: usize = 4;
@@ -38,6 +41,18 @@ fn any_accepted(random: &mut Random, across: usize, down: usize) -> Vec<usize> {
         let next = random.pick(&ready);
         taken[next] = true;
         list.push(next);
+    }
+    list
+}
+
+/// The list of one of the orders up to `ACCEPTED`.
+fn accepted(order: usize, random: &mut Random, across: usize, down: usize) -> Vec<usize> {
+    let mut list: Vec<usize> = (0..across * down).collect();
+    match order {
+        1 => list = any_accepted(random, across, down),
+        2 => list.sort_by_key(|n| (n % across, n / across)),
+        3 => list.sort_by_key(|n| (n % across + n / across, n % across)),
+        _ => {}
     }
     list
 }
@@ -63,17 +78,24 @@ fn duplicate(random: &mut Random, list: &mut [usize]) {
     list[to] = list[from];
 }
 
-/// A number that no superblock of `count` has.
-fn past(random: &mut Random, count: usize) -> usize {
+/// A number that no superblock of `count` has, `like` modulo 256 often.
+fn past(random: &mut Random, count: usize, like: usize) -> usize {
     let any = random.below(count);
     random.pick(&[
         count,
         count,
         count + 1 + any,
-        any + 256,
-        any + 1_024,
+        like + 256,
+        like + 1_024,
         65_535,
     ])
+}
+
+/// Numbers up to `count`, as many or any number of them.
+fn any_numbers(random: &mut Random, count: usize) -> Vec<usize> {
+    let any = random.below(2 * count + 1);
+    let len = random.pick(&[count, any]);
+    (0..len).map(|_| random.below(count + 1)).collect()
 }
 
 /// The list of that order and seed for across by down superblocks.
@@ -81,15 +103,18 @@ pub fn order(order: usize, seed: u64, across: usize, down: usize) -> Vec<u16> {
     let random = &mut Random::new(seed);
     let count = across * down;
     let mut list: Vec<usize> = match order {
-        1 => any_accepted(random, across, down),
+        0..ACCEPTED => accepted(order, random, across, down),
         4 | 13 | 14 => swapped_pair(random, across, down),
         7..=11 if random.one_in(2) => any_accepted(random, across, down),
         12 => Vec::new(),
+        15 | 16 => {
+            let order = random.below(ACCEPTED);
+            accepted(order, random, across, down)
+        }
+        17 => any_numbers(random, count),
         _ => (0..count).collect(),
     };
     match order {
-        2 => list.sort_by_key(|n| (n % across, n / across)),
-        3 => list.sort_by_key(|n| (n % across + n / across, n % across)),
         5 => (1..count).for_each(|i| list.swap(i, random.below(i + 1))),
         6 => list.reverse(),
         7 | 13 => duplicate(random, &mut list),
@@ -102,18 +127,24 @@ pub fn order(order: usize, seed: u64, across: usize, down: usize) -> Vec<u16> {
         }
         9 => {
             let place = random.below(count);
-            list[place] = past(random, count);
+            list[place] = past(random, count, list[place]);
         }
         10 => {
             let place = random.below(count);
             list.remove(place);
         }
         11 | 14 => {
-            let (any, none) = (random.below(count), past(random, count));
+            let any = random.below(count);
+            let none = past(random, count, any);
             let extra = random.pick(&[any, list[count - 1], none]);
             let place = random.pick(&[0, count]);
             list.insert(place, extra);
         }
+        15 if count >= 2 => {
+            let place = random.below(count - 1);
+            list.swap(place, place + 1);
+        }
+        16 => list.swap(random.below(count), random.below(count)),
         _ => {}
     }
     list.into_iter().map(|n| n as u16).collect()

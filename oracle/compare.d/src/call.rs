@@ -1,12 +1,12 @@
 //! A call on one block that is lent the two planes of its level and a vector.
 
 use cases::{CONTENTS, Random, SEEDS, WEIGHTS};
-use oracle::{BlockAt, PAD};
+use oracle::BlockAt;
 
 use crate::{
     kind::Numbers,
     lend::LONGER,
-    planes::setting_of,
+    planes::{plane_len, setting_of},
     refusal::Asked,
     scenes::{Scene, Setting},
 };
@@ -88,8 +88,8 @@ impl Call {
     }
 
     fn full_len(&self) -> usize {
-        let (setting, s) = (self.setting(), shift(self.asked.level));
-        ((setting.width >> s) + 2 * PAD[s]) * ((setting.height >> s) + 2 * PAD[s])
+        let setting = self.setting();
+        plane_len(setting.width, setting.height, shift(self.asked.level))
     }
 
     /// The current plane and the reference, or None where the scene has none so long.

@@ -52,10 +52,10 @@ fn draw_fill(random: &mut Random, setting: &Setting) -> [i128; 2] {
     [fill, (random.word() % CELL_SEEDS).into()]
 }
 
-/// The lengths of a grid's buffers: exact or longer, but in one draw of sixteen
-/// or so.
-fn grid_lens(random: &mut Random, guarded: bool, full: usize) -> [usize; 3] {
-    if random.one_in(4) {
+/// The lengths of a grid's buffers: exact or longer, but where they `may_lack` in
+/// one draw of sixteen or so.
+fn grid_lens(random: &mut Random, guarded: bool, full: usize, may_lack: bool) -> [usize; 3] {
+    if may_lack && random.one_in(4) {
         return lengths(random, guarded, full);
     }
     let most = if guarded { 0 } else { LONGER };
@@ -81,8 +81,14 @@ impl Grids {
         "cells_seed",
     ];
 
-    /// The numbers of grids for a frame; the previous one is absent in one draw of three.
-    pub fn draw(random: &mut Random, setting: &Setting, guarded: bool) -> Vec<i128> {
+    /// The numbers of grids for a frame; the previous one is absent in one draw of
+    /// three. One that the call uses may be too short where they `may_lack`.
+    pub fn draw(
+        random: &mut Random,
+        setting: &Setting,
+        guarded: bool,
+        may_lack: bool,
+    ) -> Vec<i128> {
         let full = setting.width / 4 * (setting.height / 4);
         let present = match random.below(3) {
             0 => 0,
@@ -95,10 +101,10 @@ impl Grids {
                 random.pick(&[0, any, full - 1, full])
             })
         } else {
-            grid_lens(random, guarded, full)
+            grid_lens(random, guarded, full, may_lack)
         };
         let previous_fill = draw_fill(random, setting);
-        let current = grid_lens(random, guarded, full);
+        let current = grid_lens(random, guarded, full, may_lack);
         let fill = draw_fill(random, setting);
         [
             &[present as i128][..],
@@ -108,6 +114,22 @@ impl Grids {
             &fill,
         ]
         .concat()
+    }
+
+    /// A current grid, exactly long enough, and no previous one.
+    pub fn alone(cells: Grid) -> Self {
+        let none = Grid {
+            rows: Vec::new(),
+            cols: Vec::new(),
+            sads: Vec::new(),
+        };
+        let lens = [cells.sads.len(); 3];
+        Grids {
+            present: 0,
+            previous: LentGrid::new(none, [0; 3]),
+            current: LentGrid::writable(cells, lens),
+            previous_fill: 0,
+        }
     }
 
     /// The grids of a frame, the previous and the current one as `arrange` leaves

@@ -2,6 +2,7 @@
 
 mod candidate;
 mod found;
+mod lists;
 mod predictors;
 mod range;
 mod rate;
@@ -10,13 +11,14 @@ mod run;
 mod sad;
 mod search;
 mod step;
+mod steps;
 mod written;
 
 use crate::kind::Kind;
 
 /// Every kind there is, with its cases in a round: a run costs as much as many
 /// of the others.
-pub const KINDS: [(&dyn Kind, usize); 11] = [
+pub const KINDS: [(&dyn Kind, usize); 13] = [
     (&rate::Rate, 4),
     (&range::Range, 4),
     (&sad::Sad, 4),
@@ -28,4 +30,6 @@ pub const KINDS: [(&dyn Kind, usize); 11] = [
     (&predictors::Predictors, 8),
     (&step::Step, 6),
     (&run::Run, 4),
+    (&steps::Steps, 4),
+    (&lists::Lists, 6),
 ];

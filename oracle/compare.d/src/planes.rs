@@ -10,6 +10,11 @@ use crate::{
     scenes::{Scene, Setting},
 };
 
+/// The samples of a plane at shift s.
+pub fn plane_len(width: usize, height: usize, s: usize) -> usize {
+    ((width >> s) + 2 * PAD[s]) * ((height >> s) + 2 * PAD[s])
+}
+
 /// The frame that what is lent is of: the smallest where none is described.
 pub fn setting_of(width: usize, height: usize, content: usize, seed: u64) -> Setting {
     let valid = frame_is_valid(width, height);
@@ -44,13 +49,18 @@ impl Planes {
         "reference_quarter_len",
     ];
 
-    /// Planes that are long enough, but in one draw of twelve or so; those at a
-    /// shift that is not `used` may be of any length.
-    pub fn draw(random: &mut Random, setting: &Setting, used: Option<usize>) -> Self {
+    /// Planes that are long enough, but where they `may_lack` in one draw of twelve
+    /// or so; those at a shift that is not `used` may be of any length.
+    pub fn draw(
+        random: &mut Random,
+        setting: &Setting,
+        used: Option<usize>,
+        may_lack: bool,
+    ) -> Self {
         let guarded = random.one_in(4);
-        let (fault, any) = (random.one_in(10), random.one_in(2));
+        let (fault, any) = (may_lack && random.one_in(10), random.one_in(2));
         let lens = [0, 1, 2, 0, 1, 2].map(|s: usize| {
-            let full = ((setting.width >> s) + 2 * PAD[s]) * ((setting.height >> s) + 2 * PAD[s]);
+            let full = plane_len(setting.width, setting.height, s);
             let longer = if guarded { 0 } else { random.below(LONGER + 1) };
             let shorter = random.below(full);
             if any && used.is_some_and(|used| used != s) {

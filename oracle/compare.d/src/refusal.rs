@@ -7,6 +7,7 @@ mod run;
 mod step;
 
 pub use block::Asked;
+pub use list::refusal_of_list;
 pub use rules::{GridLens, frame_is_valid, superblocks};
 pub use run::AskedRun;
 pub use step::AskedStep;

@@ -116,7 +116,7 @@ impl Kind for Predictors {
         let (content, seed) = (setting.content, setting.seed);
         let lent = setting_of(asked.width, asked.height, content, seed);
         let frame = [content as i128, seed.into(), guarded.into()];
-        let grids = Grids::draw(random, &lent, guarded);
+        let grids = Grids::draw(random, &lent, guarded, true);
         [asked.numbers(), frame.to_vec(), grids].concat()
     }
 

@@ -10,23 +10,23 @@ use crate::{
     planes::{Planes, setting_of},
     proved,
     refusal::{AskedRun, superblocks},
-    scenes::{Scene, Scenes, Setting},
+    scenes::{Scenes, Setting},
 };
 
 pub struct Run;
 
-fn proved(
+/// The code of the proved code, or None where the buffers cannot be lent so.
+pub fn proved(
     asked: &AskedRun,
-    planes: &Planes,
-    scene: &Scene,
+    lent: [&[u8]; 6],
+    guarded: bool,
     grids: &mut Grids,
     list: &[u16],
 ) -> Option<u32> {
-    let lent = planes.lend(scene)?;
-    let (prev_rows, prev_cols, prev_sads) = grids.previous.buffers(planes.guarded)?;
-    let (rows, cols, sads) = grids.current.buffers_mut(planes.guarded)?;
+    let (prev_rows, prev_cols, prev_sads) = grids.previous.buffers(guarded)?;
+    let (rows, cols, sads) = grids.current.buffers_mut(guarded)?;
     let lent_list = Lent::new(list);
-    let list = lent_list.lend(planes.guarded, list.len())?;
+    let list = lent_list.lend(guarded, list.len())?;
     // SAFETY: planes, buffers and the list are lent with their own lengths.
     Some(unsafe {
         proved::lockdapple_frame_run(
@@ -88,7 +88,7 @@ impl Kind for Run {
             asked.spoil(random);
         }
         let lent = setting_of(asked.width, asked.height, setting.content, setting.seed);
-        let planes = Planes::draw(random, &lent, None);
+        let planes = Planes::draw(random, &lent, None, true);
         let list = match random.below(6) {
             0 => 0,
             1 | 2 => 1,
@@ -96,7 +96,7 @@ impl Kind for Run {
             _ => random.below(ORDERS.len()),
         };
         let list = [list, random.below(1 << 16)].map(|n| n as i128).to_vec();
-        let grids = Grids::draw(random, &lent, planes.guarded);
+        let grids = Grids::draw(random, &lent, planes.guarded, true);
         [asked.numbers(), planes.numbers(), list, grids].concat()
     }
 
@@ -118,7 +118,8 @@ impl Kind for Run {
                 .frame_run(&grids.current.cells, grids.previous()),
             _ => grids.current.cells.clone(),
         };
-        let code = proved(&asked, &planes, scene, &mut grids, &list)?;
+        let lent = planes.lend(scene)?;
+        let code = proved(&asked, lent, planes.guarded, &mut grids, &list)?;
         let (expected, proved) = answers(refusal, code, &grids, planes.guarded, &should);
         let accepted = usize::from(refusal == 0);
         Some(Outcome {

@@ -65,7 +65,8 @@ fn close_sad(asked: &AskedStep, close: u64, scene: &Scene) -> u32 {
     (min_sad * 16_384).div_ceil(area) as u32
 }
 
-fn proved(asked: &AskedStep, planes: &Planes, scene: &Scene, grids: &mut Grids) -> Option<u32> {
+/// The code of the proved code, or None where the buffers cannot be lent so.
+pub fn proved(asked: &AskedStep, planes: &Planes, scene: &Scene, grids: &mut Grids) -> Option<u32> {
     let lent = planes.lend(scene)?;
     let (prev_rows, prev_cols, prev_sads) = grids.previous.buffers(planes.guarded)?;
     let (rows, cols, sads) = grids.current.buffers_mut(planes.guarded)?;
@@ -133,12 +134,12 @@ impl Kind for Step {
             asked.spoil(random);
         }
         let lent = setting_of(asked.width, asked.height, setting.content, setting.seed);
-        let planes = Planes::draw(random, &lent, Some(shift(asked.level)));
+        let planes = Planes::draw(random, &lent, Some(shift(asked.level)), true);
         let stored = random.pick(&[0, 0, 0, 0, 0, 0, 1, 1, 2, 3]);
         let near = 128 + random.below(128);
         let close = random.pick(&[0, 0, 0, near, near, 256]);
         let stored = [stored, random.below(1 << 16), close].map(|n| n as i128);
-        let grids = Grids::draw(random, &lent, planes.guarded);
+        let grids = Grids::draw(random, &lent, planes.guarded, true);
         [asked.numbers(), planes.numbers(), stored.to_vec(), grids].concat()
     }
 

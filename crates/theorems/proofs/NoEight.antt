@@ -1,0 +1,54 @@
+-- Number 8 cannot occur in a run that is not refused: no refinement of any of its steps has an empty window.
+-- Assumes nothing.
+use mathlib.Core.Path.{_≡_, refl, ap, _∙_}
+use mathlib.Core.Bool.{Bool, true}
+use mathlib.Core.List.{List}
+use Prim.Native.Nat.{ℕ, zero, suc}
+use native.Mathlib.Omega.{arith}
+use Rattle.predict.specs.Grid.{Grid}
+use Rattle.motion.specs.Superblock.{superblocksAlong}
+use Rattle.estimate.specs.Inputs.{four, three}
+use Rattle.frame.specs.Step.{windowsOk}
+use Rattle.frame.specs.Run.{inputsAt}
+use Rattle.order.specs.List.{listRefusal}
+use Rattle.inter.specs.Refusal.{refuse, _then_}
+use Rattle.inter.specs.Grids.{previous}
+use Rattle.inter.specs.Steps.{stepTests, stepRefusal}
+use Rattle.inter.specs.Runs.{runTests, runRefusal}
+use Rattle.inter.proofs.RefusalLaws.{none-of}
+use Rattle.inter.proofs.ReadyLaws.{run-ready}
+use Rattle.theorems.specs.Order.{NeverEight}
+use Rattle.theorems.proofs.EstimateStored.{Bytes}
+use Rattle.theorems.proofs.WindowsRun.{run-windowed}
+
+-- a step whose windows are not empty is refused, if at all, by numbers 1 to 5
+then-none : (n : ℕ) → n then 0 ≡ n
+unfolding _then_
+then-none zero = refl
+then-none (suc n) = refl
+
+pub step-not-eight : (width height level n : ℕ) (cur ref : List ℕ) (present : ℕ) (prev g : Grid) → windowsOk width height level n (g .rows) (g .cols) ≡ true → stepRefusal width height level n cur ref present prev g ≡ stepTests width height level n cur ref present prev g
+unfolding stepRefusal refuse
+step-not-eight width height level n cur ref present prev g ok =
+    let tests = stepTests width height level n cur ref present prev g in
+    ap (λ (t : Bool). tests then refuse 8 t) ok ∙ then-none tests
+
+-- a run of planes of bytes, at weight 0
+pub never-eight : NeverEight
+unfolding runRefusal inputsAt
+never-eight width height cur ref present prev list g hc hr done =
+    let none = none-of (runTests width height cur ref present prev g) (listRefusal (superblocksAlong width) (superblocksAlong height) list) done in
+    let ready = run-ready width height cur ref present prev g (none .0) in
+    let bytes4 : Bytes (inputsAt width height cur ref 0 4) = record {
+      ready = record { wide = ready .wide; high = ready .high; leveled = four; cur = ready .quarter .cur; ref = ready .quarter .ref };
+      cur = hc 4;
+      ref = hr 4;
+      weight = omega arith;
+    } in
+    let bytes3 : Bytes (inputsAt width height cur ref 0 3) = record {
+      ready = record { wide = ready .wide; high = ready .high; leveled = three; cur = ready .half .cur; ref = ready .half .ref };
+      cur = hc 3;
+      ref = hr 3;
+      weight = omega arith;
+    } in
+    run-windowed width height cur ref 0 bytes4 bytes3 (previous present prev) list (none .1) g (ready .grids .held)

@@ -1,0 +1,1 @@
+// Theorems about the definitions that the entry points cite; this crate has no code.
