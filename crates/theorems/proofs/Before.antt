@@ -34,7 +34,8 @@ use Rattle.frame.proofs.RunLaws.{run-last}
 use Rattle.theorems.specs.Order.{WhateverBefore}
 use Rattle.theorems.proofs.CellLaws.{own-of}
 use Rattle.theorems.proofs.OrderLaws.{order}
-use Rattle.theorems.proofs.Inside.{SameAt, estimate-reads, SameInside, saved-same, run-same}
+use Rattle.theorems.proofs.BlockReads.{SameAt, estimate-reads}
+use Rattle.theorems.proofs.Inside.{SameInside, saved-same, run-same}
 
 same-taken : {g h : Grid} (t : Bool) (i : ℕ) → (t ≡ true → statsAt g i ≡ statsAt h i) → SameAt g h (taken t i)
 unfolding taken

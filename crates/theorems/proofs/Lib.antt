@@ -3,6 +3,7 @@ pub mod Determined
 pub mod EdgeCases
 pub mod CellLaws
 pub mod NearLaws
+pub mod BlockReads
 pub mod StepReads
 pub mod Commute
 pub mod OrderLaws

@@ -1,33 +1,32 @@
 -- A step writes its own superblock's cells alone, and what it writes depends on those and on the cells of the superblocks that
 -- share an edge with it alone. Assumes nothing.
-use mathlib.Core.Path.{_≡_, refl, sym, ap, ap₂, _∙_}
+use mathlib.Core.Path.{_≡_, refl, sym, ap, _∙_}
 use mathlib.Core.Bool.{Bool, true, false, cond, true≢false}
-use mathlib.Core.List.{List, _∷_}
+use mathlib.Core.List.{List}
 use mathlib.Core.Logic.{⊎-elim}
 use Prim.Native.Nat.{ℕ, zero, suc, _-_, _<_}
 use native.Mathlib.Nat.{eq-zero-or-pos}
 use native.Mathlib.Omega.{arith}
 use lib.IntN.{pos}
 use lib.ListN.{length, getD, List·getD-eq-default}
-use Rattle.motion.specs.declared.range.MvRange.{MvRange}
 use Rattle.motion.specs.Level.{levelOf}
 use Rattle.motion.specs.Frame.{Side}
-use Rattle.motion.specs.Block.{blockOf}
 use Rattle.motion.specs.Superblock.{superblocks}
 use Rattle.motion.proofs.TestLaws.{tested, not-so}
 use Rattle.motion.proofs.EveryLaws.{below-same}
 use Rattle.predict.specs.declared.grid.MEStats.{MEStats}
-use Rattle.predict.specs.Grid.{Grid, storedAt, statsAt}
-use Rattle.predict.specs.Predictors.{predictor, predictorsAt, sadsAt, subsetsOf}
+use Rattle.search.specs.Full.{windowOk}
+use Rattle.predict.specs.Grid.{Grid, cellAt, storedAt, statsAt}
 use Rattle.estimate.specs.Inputs.{Inputs, Previous}
 use Rattle.estimate.specs.Save.{replace, saveWhere, covers, saveBlock}
-use Rattle.estimate.specs.Block.{estimateMotion, firstStored, windowAt, refineMotion}
+use Rattle.estimate.specs.Block.{estimateMotion, refineMotion}
 use Rattle.estimate.proofs.SaveLaws.{length-replace, getD-replace, block-outside}
 use Rattle.frame.specs.Step.{blockCount, blockX, blockY, worked, refinedCount, windowsOk, refinements, estimates, step}
 use Rattle.frame.proofs.GeometryLaws.{Tabled, own-tabled, refined-tabled}
 use Rattle.frame.proofs.StepLaws.{AsLong, long-more, worked-long, refined-below, refinements-long, step-refused, step-taken}
 use Rattle.theorems.specs.Cells.{ownCell, NearCell, AgreeOn}
 use Rattle.theorems.proofs.CellLaws.{block-own}
+use Rattle.theorems.proofs.BlockReads.{SameAt, estimate-reads, refine-reads, window-reads}
 use Rattle.theorems.proofs.NearLaws.{Each, none, more, first-near, b-near, middle-near}
 
 -- a block that is saved changes no cell outside its superblock
@@ -42,17 +41,14 @@ module _ (result : ℕ → ℕ → Grid → MEStats) {width height size n : ℕ}
       let uncovered = not-so (covers width height size bx by c) (λ e. true≢false (sym (block-own tabled wide high h k (fits k (omega arith)) c e) ∙ out)) in
       block-outside width height size bx by (result bx by now) now c uncovered ∙ worked-outside k (λ j p. fits j (omega arith)) g c out
 
--- cells of which two grids hold the same give the same predictors and SADs
-module _ {Kind : ℕ → Type 0} (g h : Grid) (agree : AgreeOn Kind g h) where
-  predictors-agree : (r : MvRange) (s : ℕ) {cs : List ℕ} → Each Kind cs → predictorsAt r s g cs ≡ predictorsAt r s h cs
-  unfolding predictorsAt
-  predictors-agree r s none = refl
-  predictors-agree r s (more it e) = ap₂ _∷_ (ap (λ (stats : MEStats). predictor r s (stats .mv)) (agree _ it)) (predictors-agree r s e)
+-- grids that agree on cells of a kind hold the same in each cell of a list of them
+each-at : {Kind : ℕ → Type 0} (g h : Grid) → AgreeOn Kind g h → {cs : List ℕ} → Each Kind cs → (k : ℕ) → k < length cs → statsAt g (getD cs k 0) ≡ statsAt h (getD cs k 0)
+each-at g h agree none k p = absurd (omega arith)
+each-at g h agree (more it e) zero p = agree _ it
+each-at g h agree (more it e) (suc k) p = each-at g h agree e k (omega arith)
 
-  sads-agree : {cs : List ℕ} → Each Kind cs → sadsAt g cs ≡ sadsAt h cs
-  unfolding sadsAt
-  sads-agree none = refl
-  sads-agree (more it e) = ap₂ _∷_ (ap (λ (stats : MEStats). stats .«normalized_sad») (agree _ it)) (sads-agree e)
+each-same : {Kind : ℕ → Type 0} (g h : Grid) → AgreeOn Kind g h → {cs : List ℕ} → Each Kind cs → SameAt g h cs
+each-same g h agree e = record { each = each-at g h agree e }
 
 -- one more save in two lists that are as long as each other, and hold the same at a place
 replace-agrees : {A : Type 0} (test : ℕ → Bool) (new d : A) (xs ys : List A) → length ys ≡ length xs → (c : ℕ) → getD xs c d ≡ getD ys c d → getD (replace test new xs) c d ≡ getD (replace test new ys) c d
@@ -103,34 +99,28 @@ module _ (i : Inputs) (p : Previous) (wide : Side (i .width)) (high : Side (i .h
   -- a block's search reads near cells alone
   pub estimate-agrees : (k : ℕ) → k < blockCount (i .width) (i .height) (levelOf (i .level) .«mv_size») n → (g h : Grid) → AgreeOn (NearCell (i .width) (i .height) n) g h
       → estimateMotion i p (blockX (i .width) (levelOf (i .level) .«mv_size») n k) (blockY (i .width) (levelOf (i .level) .«mv_size») n k) g ≡ estimateMotion i p (blockX (i .width) (levelOf (i .level) .«mv_size») n k) (blockY (i .width) (levelOf (i .level) .«mv_size») n k) h
-  unfolding estimateMotion subsetsOf
   estimate-agrees k below g h agree =
       let size = levelOf (i .level) .«mv_size» in
-      let bx = blockX (i .width) size n k in
-      let by = blockY (i .width) size n k in
-      let r = blockOf (i .width) (i .height) (levelOf (i .level)) size bx by .range in
-      let s = levelOf (i .level) .ssdec in
-      let bs = b-near (i .level) wide high inside k below in
-      let ms = middle-near (i .level) wide high inside k below in
-      rw (predictors-agree g h agree r s bs, sads-agree g h agree bs, predictors-agree g h agree r s ms, sads-agree g h agree ms)
+      estimate-reads i p (blockX (i .width) size n k) (blockY (i .width) size n k) g h
+      (each-same g h agree (b-near (i .level) wide high inside k below)) (each-same g h agree (middle-near (i .level) wide high inside k below))
 
   -- a refinement and its window read the block's first cell alone
   first-agrees : (k : ℕ) → k < blockCount (i .width) (i .height) (levelOf (i .level) .refined) n → (g h : Grid) → AgreeOn (NearCell (i .width) (i .height) n) g h
-      → firstStored (i .width) (blockX (i .width) (levelOf (i .level) .refined) n k) (blockY (i .width) (levelOf (i .level) .refined) n k) (g .rows) (g .cols) ≡ firstStored (i .width) (blockX (i .width) (levelOf (i .level) .refined) n k) (blockY (i .width) (levelOf (i .level) .refined) n k) (h .rows) (h .cols)
-  unfolding firstStored statsAt
-  first-agrees k below g h agree =
-      ap (λ (stats : MEStats). stats .mv) (agree _ (first-near (refined-tabled (i .level)) wide high inside k below))
+      → statsAt g (cellAt (i .width) (blockX (i .width) (levelOf (i .level) .refined) n k) (blockY (i .width) (levelOf (i .level) .refined) n k)) ≡ statsAt h (cellAt (i .width) (blockX (i .width) (levelOf (i .level) .refined) n k) (blockY (i .width) (levelOf (i .level) .refined) n k))
+  first-agrees k below g h agree = agree _ (first-near (refined-tabled (i .level)) wide high inside k below)
 
   pub refine-agrees : (k : ℕ) → k < blockCount (i .width) (i .height) (levelOf (i .level) .refined) n → (g h : Grid) → AgreeOn (NearCell (i .width) (i .height) n) g h
       → refineMotion i (blockX (i .width) (levelOf (i .level) .refined) n k) (blockY (i .width) (levelOf (i .level) .refined) n k) (g .rows) (g .cols) ≡ refineMotion i (blockX (i .width) (levelOf (i .level) .refined) n k) (blockY (i .width) (levelOf (i .level) .refined) n k) (h .rows) (h .cols)
-  unfolding refineMotion
-  refine-agrees k below g h agree = rw (first-agrees k below g h agree)
+  refine-agrees k below g h agree =
+      let size = levelOf (i .level) .refined in
+      refine-reads (blockX (i .width) size n k) (blockY (i .width) size n k) g h i (first-agrees k below g h agree)
 
   windows-agree : (g h : Grid) → AgreeOn (NearCell (i .width) (i .height) n) g h → windowsOk (i .width) (i .height) (i .level) n (g .rows) (g .cols) ≡ windowsOk (i .width) (i .height) (i .level) n (h .rows) (h .cols)
-  unfolding windowsOk windowAt
+  unfolding windowsOk
   windows-agree g h agree =
+      let size = levelOf (i .level) .refined in
       below-same (refinedCount (i .width) (i .height) (i .level) n) _ _
-      (λ k below. rw (first-agrees k (refined-below (i .width) (i .height) (i .level) n below) g h agree))
+      (λ k below. ap windowOk (window-reads (blockX (i .width) size n k) (blockY (i .width) size n k) g h (i .width) (i .height) (i .level) (first-agrees k (refined-below (i .width) (i .height) (i .level) n below) g h agree)))
 
   refinements-agree : (g h : Grid) → AsLong g h → AgreeOn (NearCell (i .width) (i .height) n) g h → AgreeOn (NearCell (i .width) (i .height) n) (refinements i n g) (refinements i n h)
   unfolding refinements
