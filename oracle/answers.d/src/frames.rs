@@ -12,8 +12,7 @@ const SIDES: [(usize, usize); 3] = [(24, 16), (72, 40), (72, 72)];
 /// The content, by its number, of which the smallest frame gives every cell.
 const EVERY_CELL: usize = 4;
 
-/// Added to the seed: draws that also tell most other orders of the predictors
-/// from the published one.
+/// Added to the seed, so that frames are drawn apart from the other lists.
 const FRAME_DRAWS: u64 = 1;
 
 /// A grid whose cell i holds row i·37 mod 257 − 128, column i·91 mod 385 − 192
