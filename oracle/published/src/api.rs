@@ -1,7 +1,9 @@
 //! The published routines over plain slices, in document 01's terms.
 //!
 //! Nothing here refuses: callers stay inside document 01's domain, and what the
-//! published text does there, a panic included, is what comes out.
+//! published text does there, a panic included, is what comes out. The functions
+//! named `ready_` make everything ready before the published routine alone is called,
+//! so that it can be timed.
 
 mod block;
 mod frame;

@@ -113,9 +113,20 @@ impl Oracle {
 
     /// `estimate_tile_motion`: every level, superblocks in raster order.
     pub fn frame_run(&self, grid: &Grid, previous: Option<&Grid>) -> Grid {
-        let run =
-            |ts: &mut TileStateMut<'_, u8>| inter::estimate_tile_motion(&self.fi, ts, BIT_DEPTH);
-        self.on_grid(grid, previous, run).1
+        self.ready_run(grid, previous, |run| run()).1
+    }
+
+    /// Runs `body` with everything ready for a frame run: what it is given makes
+    /// one, and nothing else, from the grid that the last one left.
+    pub fn ready_run<R>(
+        &self,
+        grid: &Grid,
+        previous: Option<&Grid>,
+        body: impl FnOnce(&mut dyn FnMut()) -> R,
+    ) -> (R, Grid) {
+        self.on_grid(grid, previous, |ts| {
+            body(&mut || inter::estimate_tile_motion(&self.fi, ts, BIT_DEPTH))
+        })
     }
 
     /// One superblock at one level, at the weight of a run:

@@ -1,5 +1,7 @@
 //! One block: the SAD and the cost of a candidate, and the searches.
 
+use std::hint::black_box;
+
 use v_frame::plane::Plane;
 
 use super::{BIT_DEPTH, BlockAt, MvRange, Oracle};
@@ -101,10 +103,41 @@ impl Oracle {
     /// `get_sad` on the block and the reference block that a vector in range
     /// leads to.
     pub fn sad(&self, at: &BlockAt, row: i16, col: i16) -> u32 {
+        self.ready_sads(at, &[(row, col)], |sads| sads())
+    }
+
+    /// Runs `body` with the regions of several such vectors ready: what it is
+    /// given sums their SADs, and does nothing else.
+    pub fn ready_sads<R>(
+        &self,
+        at: &BlockAt,
+        vectors: &[(i16, i16)],
+        body: impl FnOnce(&mut dyn FnMut() -> u32) -> R,
+    ) -> R {
         self.on_block(at, |b| {
-            let (x, y) = (b.po.x + isize::from(col / 8), b.po.y + isize::from(row / 8));
-            let ref_region = b.p_ref.region(Area::StartingAt { x, y });
-            get_sad(&b.org_region, &ref_region, b.w, b.h, BIT_DEPTH)
+            let region = |&(row, col): &(i16, i16)| {
+                let (x, y) = (b.po.x + isize::from(col / 8), b.po.y + isize::from(row / 8));
+                b.p_ref.region(Area::StartingAt { x, y })
+            };
+            let regions: Vec<_> = vectors.iter().map(region).collect();
+            // The block is opaque, or a loop over regions would load it once for all.
+            let sad = |region| get_sad(black_box(&b.org_region), region, b.w, b.h, BIT_DEPTH);
+            body(&mut || regions.iter().map(sad).sum())
+        })
+    }
+
+    /// Runs `body` with a block ready: what it is given sums the costs of the
+    /// vectors, as `get_fullpel_mv_rd` tells them, and does nothing else.
+    pub fn ready_costs<R>(
+        &self,
+        at: &BlockAt,
+        vectors: &[(i16, i16)],
+        body: impl FnOnce(&mut dyn FnMut() -> u64) -> R,
+    ) -> R {
+        self.on_block(at, |b| {
+            let cost =
+                |&(row, col): &(i16, i16)| black_box(&b).rd(MotionVector { row, col }, 0).cost;
+            body(&mut || vectors.iter().map(cost).fold(0, u64::wrapping_add))
         })
     }
 
