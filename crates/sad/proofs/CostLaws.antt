@@ -1,5 +1,5 @@
 -- The cost of a candidate by cases, and the bounds that make u32 and u64 enough. Assumes nothing.
-use mathlib.Core.Path.{_≡_, ap}
+use mathlib.Core.Path.{_≡_, sym, ap, ap₂, subst, _∙_}
 use mathlib.Core.Bool.{Bool, true, false, cond}
 use mathlib.Core.List.{List}
 use Prim.Native.Nat.{ℕ, _-_, _*_, _≤_, _<_, _^_}
@@ -9,8 +9,8 @@ use Rattle.motion.specs.declared.block.Block.{Block}
 use Rattle.motion.specs.declared.vector.MotionVector.{MotionVector}
 use Rattle.motion.specs.Range.{inRange}
 use Rattle.motion.proofs.RateLaws.{rateV-le}
-use Rattle.sad.specs.Sad.{largestBlock}
-use Rattle.sad.specs.Plane.{orgStart, refStart, Measured}
+use Rattle.sad.specs.Sad.{sadBlock, Inside, largestBlock}
+use Rattle.sad.specs.Plane.{orgStart, refStart, Measured, Lies}
 use Rattle.sad.specs.Cost.{emptyRd, rdOf, sadAt, rdAt}
 use Rattle.sad.proofs.Sums.{Under, block-le}
 
@@ -44,3 +44,15 @@ cost-most weight sad v hw hs = omega (arith, mul-le-mul-right weight (rateV-le v
 pub in-range-most : (b : Block) (cur ref : List ℕ) (weight : ℕ) (v : MotionVector) → Measured b → Under 255 cur → Under 255 ref → weight < 2 ^ 32 → inRange (b .range) v ≡ true → rdAt b cur ref weight v .cost < 2 ^ 41
 in-range-most b cur ref weight v m hc hr hw h =
     rw (rd-in b cur ref weight v h) (cost-most weight (sadAt b cur ref v) v hw (omega (arith, sad-most b cur ref weight v m hc hr)))
+
+-- a vector in range, measured from where the two blocks start
+module _ (b : Block) (v : MotionVector) (held : inRange (b .range) v ≡ true) (s d : ℕ) (org : s ≡ orgStart b) (ref : d ≡ refStart b v) where
+  pub starts-inside : (n m : ℕ) → Lies b n → Lies b m → (Inside n s (b .stride) (b .w) (b .h) × Inside m d (b .stride) (b .w) (b .h)) × ((b .w ≤ largestBlock) × (b .h ≤ largestBlock))
+  starts-inside n m lo lr =
+      let at-org = subst (λ (s : ℕ). Inside n s (b .stride) (b .w) (b .h)) (sym org) (lo .org) in
+      let at-ref = subst (λ (d : ℕ). Inside m d (b .stride) (b .w) (b .h)) (sym ref) (lr .ref v held) in
+      ((at-org, at-ref), (lo .measured .wide, lo .measured .high))
+
+  pub sad-from : (cur refs : List ℕ) {r : ℕ} → r ≡ sadBlock cur s refs d (b .stride) (b .w) (b .h) → r ≡ sadAt b cur refs v
+  unfolding sadAt
+  sad-from cur refs e = e ∙ ap₂ (λ (s d : ℕ). sadBlock cur s refs d (b .stride) (b .w) (b .h)) org ref

@@ -1,5 +1,6 @@
 -- Laws that several proofs and other crates cite.
 pub mod Sums
+pub mod Splits
 pub mod Places
 pub mod Contained
 pub mod CostLaws

@@ -30,6 +30,13 @@ impl MVCandidateRD {
 pub fn compute_mv_rd(lambda: u32, sad: u32, cand_mv: MotionVector) -> MVCandidateRD
     ensures { λ r. ⌜ r ≡ rdOf lambda sad «cand_mv» ⌝ }
 {
+    // At weight 0, that of a run, the rate counts for nothing.
+    if lambda == 0 {
+        return MVCandidateRD {
+            cost: 256 * sad as u64,
+            sad,
+        };
+    }
     let rate = get_mv_rate(cand_mv);
     MVCandidateRD {
         cost: 256 * sad as u64 + rate as u64 * lambda as u64,

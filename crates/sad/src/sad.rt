@@ -1,15 +1,17 @@
 ghost use mathlib.Core.Path.{_≡_};
-ghost use Prim.Native.Nat.{_+_, _*_, _≤_, _<_};
+ghost use Prim.Native.Nat.{_+_, _*_, _%_, _≤_, _<_};
 ghost use lib.ListN.{length};
 ghost use Rattle.sad.specs.Sad.{absDiff, sadRow, sadBlock, Inside, largestBlock};
 
+// A difference of signed numbers, which the compiler knows for the processor's own sum of absolute differences.
 fn abs_diff(p1: u8, p2: u8) -> u32
     ensures { λ r. ⌜ r ≡ absDiff p1 p2 ⌝ }
 {
-    if p1 < p2 {
-        (p2 - p1) as u32
+    let diff = p1 as i32 - p2 as i32;
+    if diff < 0 {
+        (0 - diff) as u32
     } else {
-        (p1 - p2) as u32
+        diff as u32
     }
 }
 
@@ -27,8 +29,8 @@ fn sad_row(plane_org: &[u8], src: usize, plane_ref: &[u8], dst: usize, w: usize)
     sum
 }
 
-// The sum of absolute differences of two blocks of w by h samples.
-pub fn get_sad(
+// Rows of any width, one by one.
+fn sad_rows(
     plane_org: &[u8],
     src: usize,
     plane_ref: &[u8],
@@ -49,4 +51,91 @@ pub fn get_sad(
         y += 1;
     }
     sum
+}
+
+// Four rows of 16: one sum across a register for all of them.
+fn sad_four_rows(plane_org: &[u8], src: usize, plane_ref: &[u8], dst: usize, stride: usize) -> u32
+    requires { ⌜ Inside (length (now «plane_org»)) src stride 16 4 × Inside (length (now «plane_ref»)) dst stride 16 4 ⌝ }
+    ensures { λ r. ⌜ r ≡ sadBlock (now («plane_org» .entry)) src (now («plane_ref» .entry)) dst stride 16 4 ⌝ }
+{
+    let two = 2 * stride;
+    let three = 3 * stride;
+    let r0 = sad_row(plane_org, src, plane_ref, dst, 16);
+    let r1 = sad_row(plane_org, src + stride, plane_ref, dst + stride, 16);
+    let r2 = sad_row(plane_org, src + two, plane_ref, dst + two, 16);
+    let r3 = sad_row(plane_org, src + three, plane_ref, dst + three, 16);
+    r0 + r1 + r2 + r3
+}
+
+// A strip of 16 columns, `fours` times four rows.
+fn sad_strip(
+    plane_org: &[u8],
+    src: usize,
+    plane_ref: &[u8],
+    dst: usize,
+    stride: usize,
+    fours: usize,
+) -> u32
+    requires { ⌜ Inside (length (now «plane_org»)) src stride 16 (4 * fours) × Inside (length (now «plane_ref»)) dst stride 16 (4 * fours) ⌝ }
+    requires { ⌜ 4 * fours ≤ largestBlock ⌝ }
+    ensures { λ r. ⌜ r ≡ sadBlock (now («plane_org» .entry)) src (now («plane_ref» .entry)) dst stride 16 (4 * fours) ⌝ }
+{
+    let mut sum: u32 = 0;
+    let mut k = 0;
+    while k < fours {
+        let down = 4 * k * stride;
+        sum += sad_four_rows(plane_org, src + down, plane_ref, dst + down, stride);
+        k += 1;
+    }
+    sum
+}
+
+// Strips side by side, w columns in all.
+fn sad_strips(
+    plane_org: &[u8],
+    src: usize,
+    plane_ref: &[u8],
+    dst: usize,
+    stride: usize,
+    w: usize,
+    fours: usize,
+) -> u32
+    requires { ⌜ Inside (length (now «plane_org»)) src stride w (4 * fours) × Inside (length (now «plane_ref»)) dst stride w (4 * fours) ⌝ }
+    requires { ⌜ (w % 16 ≡ 0) × (w ≤ largestBlock) × (4 * fours ≤ largestBlock) ⌝ }
+    ensures { λ r. ⌜ r ≡ sadBlock (now («plane_org» .entry)) src (now («plane_ref» .entry)) dst stride w (4 * fours) ⌝ }
+{
+    // With no row, nothing bounds where a strip starts.
+    if fours == 0 {
+        return 0;
+    }
+    let mut sum: u32 = 0;
+    let mut x = 0;
+    while x < w {
+        sum += sad_strip(plane_org, src + x, plane_ref, dst + x, stride, fours);
+        x += 16;
+    }
+    sum
+}
+
+// The sum of absolute differences of two blocks of w by h samples. Blocks that are not cropped are strips.
+pub fn get_sad(
+    plane_org: &[u8],
+    src: usize,
+    plane_ref: &[u8],
+    dst: usize,
+    stride: usize,
+    w: usize,
+    h: usize,
+) -> u32
+    requires { ⌜ Inside (length (now «plane_org»)) src stride w h × Inside (length (now «plane_ref»)) dst stride w h ⌝ }
+    requires { ⌜ (w ≤ largestBlock) × (h ≤ largestBlock) ⌝ }
+    ensures { λ r. ⌜ r ≡ sadBlock (now («plane_org» .entry)) src (now («plane_ref» .entry)) dst stride w h ⌝ }
+{
+    if w % 16 != 0 {
+        return sad_rows(plane_org, src, plane_ref, dst, stride, w, h);
+    }
+    if h % 4 != 0 {
+        return sad_rows(plane_org, src, plane_ref, dst, stride, w, h);
+    }
+    sad_strips(plane_org, src, plane_ref, dst, stride, w, h / 4)
 }

@@ -4,9 +4,10 @@ use mathlib.Core.Bool.{Bool, true, false, cond}
 use Prim.Native.Nat.{ℕ, zero, suc, _+_, _-_, _^_, _≤_, _<_}
 use native.Mathlib.Numerals.{add-one}
 use native.Mathlib.Omega.{arith}
-use borrow.Author.Tests.{ltb-true}
+use borrow.Author.Tests.{ltb-true, le-ltb}
 use lib.Dec.{ltb}
 use Rattle.motion.specs.declared.vector.MotionVector.{MotionVector}
+use Rattle.sad.specs.declared.rd.MVCandidateRD.{MVCandidateRD}
 use Rattle.sad.specs.Cost.{emptyRd}
 use Rattle.search.specs.declared.result.MotionSearchResult.{MotionSearchResult}
 use Rattle.search.specs.declared.patterns.Pattern.{Pattern}
@@ -22,9 +23,19 @@ pub each-more : (rd : CostOf) (best : MotionSearchResult) (i : ℕ) (vs : ℕ �
 unfolding tryEach
 each-more rd best i vs = ap (λ (n : ℕ). tryEach rd best n vs) (add-one i)
 
+pub each-four : (rd : CostOf) (best : MotionSearchResult) (vs : ℕ → MotionVector) → tryEach rd best 4 vs ≡ tryOne rd (tryOne rd (tryOne rd (tryOne rd best (vs 0)) (vs 1)) (vs 2)) (vs 3)
+unfolding tryEach
+each-four rd best vs = refl
+
 -- the largest cost, which no vector in range has
 abbrev pub mostCost : ℕ
 mostCost = 2 ^ 64 - 1
+
+-- a candidate that costs the most changes nothing
+pub one-most : (rd : CostOf) (best : MotionSearchResult) (v : MotionVector) → rd v ≡ emptyRd → best .rd .cost ≤ mostCost → tryOne rd best v ≡ best
+unfolding tryOne cheaper emptyRd
+one-most rd best v e h =
+    ap (λ (t : Bool). cond t (record { mv = v; rd = rd v }) best) (le-ltb (rd v .cost) (best .rd .cost) (omega (arith, ap (λ (r : MVCandidateRD). r .cost) e)))
 
 -- What holds of the record of every vector that costs less than the most, holds of every record that is cheaper than a record
 -- of cost at most the most.

@@ -1,6 +1,6 @@
 use crate::patterns::Pattern;
+use crate::patterns::pattern_point;
 use crate::result::MotionSearchResult;
-use crate::result::try_pattern;
 use motion::block::Block;
 use motion::vector::MotionVector;
 ghost use mathlib.Core.Path.{_≡_};
@@ -26,16 +26,16 @@ fn diamond_round(
     requires { ⌜ («radius_log2» ≤ 1) × Near center ⌝ }
     ensures { λ r. ⌜ r ≡ diamondBest (rdAt b (now («plane_org» .entry)) (now («plane_ref» .entry)) lambda) «radius_log2» center ⌝ }
 {
+    let pattern = Pattern::Diamond(radius_log2);
+    let down = pattern_point(pattern, center, 0);
+    let right = pattern_point(pattern, center, 1);
+    let up = pattern_point(pattern, center, 2);
+    let left = pattern_point(pattern, center, 3);
     let empty = MotionSearchResult::empty();
-    try_pattern(
-        b,
-        plane_org,
-        plane_ref,
-        lambda,
-        Pattern::Diamond(radius_log2),
-        center,
-        empty,
-    )
+    let first = empty.try_mv(b, plane_org, plane_ref, lambda, down);
+    let second = first.try_mv(b, plane_org, plane_ref, lambda, right);
+    let third = second.try_mv(b, plane_org, plane_ref, lambda, up);
+    third.try_mv(b, plane_org, plane_ref, lambda, left)
 }
 
 // Moves by the diamond, first of radius 2 pixels, then of 1, until it finds no cheaper point.

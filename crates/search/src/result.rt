@@ -3,8 +3,11 @@ use crate::patterns::pattern_point;
 use crate::patterns::pattern_points;
 use motion::block::Block;
 use motion::vector::MotionVector;
+use sad::plane::org_start;
+use sad::plane::ref_start;
 use sad::rd::MVCandidateRD;
-use sad::rd::get_fullpel_mv_rd;
+use sad::rd::compute_mv_rd;
+use sad::sad::get_sad;
 ghost use mathlib.Core.Path.{_≡_};
 ghost use lib.ListN.{length};
 ghost use Rattle.sad.specs.Plane.{Lies};
@@ -41,7 +44,7 @@ impl MotionSearchResult {
         }
     }
 
-    // Tries a candidate.
+    // Tries a candidate. It is measured here, where the sum comes back in a register and no record through memory.
     pub fn try_mv(
         self,
         b: Block,
@@ -53,7 +56,14 @@ impl MotionSearchResult {
         requires { ⌜ Lies b (length (now «plane_org»)) × Lies b (length (now «plane_ref»)) ⌝ }
         ensures { λ r. ⌜ r ≡ tryOne (rdAt b (now («plane_org» .entry)) (now («plane_ref» .entry)) lambda) self «cand_mv» ⌝ }
     {
-        let rd = get_fullpel_mv_rd(b, plane_org, plane_ref, lambda, cand_mv);
+        // Out of range it costs the most, and the most is never cheaper.
+        if !b.range.holds(cand_mv) {
+            return self;
+        }
+        let src = org_start(b);
+        let dst = ref_start(b, cand_mv);
+        let sad = get_sad(plane_org, src, plane_ref, dst, b.stride, b.w, b.h);
+        let rd = compute_mv_rd(lambda, sad, cand_mv);
         self.or_cheaper(MotionSearchResult { mv: cand_mv, rd })
     }
 }

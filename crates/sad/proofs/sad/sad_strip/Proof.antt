@@ -1,0 +1,108 @@
+-- `sad::sad::sad_strip` meets its contract: after k turns the sum is that of 4k rows, at most 255 for each sample.
+-- Assumes nothing.
+use mathlib.Core.Path.{_≡_, ap, subst, _∙_}
+use Prim.Native.Nat.{ℕ, _≤_, _+_, _*_, _-_}
+use native.Mathlib.Omega.{arith}
+use denote.Ref.{now}
+use lib.ListN.{length}
+use Rattle.sad.specs.Sad.{sadBlock, Inside}
+use Rattle.sad.proofs.Splits.{inside-below, block-then}
+use Rattle.sad.proofs.Sums.{Under, block-none, block-le}
+use Rattle.sad.proofs.sad.sad_strip.Statement.{statement}
+use Rattle.sad.proofs.sad.sad_strip.Tie as tie
+
+abbrev Inv-loop : tie.InvT-loop
+Inv-loop plane-org src plane-ref dst stride fours sum₀ k₀ sum k =
+    (k ≤ fours) × (sum ≤ 255 * 16 * (4 * k)) × (sum ≡ sadBlock plane-org src plane-ref dst stride 16 (4 * k))
+
+abbrev μ-loop : tie.MeasureT-loop
+μ-loop plane-org src plane-ref dst stride fours sum₀ k₀ sum k = fours - k
+
+loop-holds : tie.Need-loop-holds Inv-loop μ-loop
+loop-holds c =
+    let a = c .before .before .args in
+    (omega arith, omega arith, omega (arith, block-none (a .plane-org .now) (a .src) (a .plane-ref .now) (a .dst) (a .stride) 16))
+
+-- the four rows that a turn takes lie inside both slices
+module _ (n s stride k fours : ℕ) (more : k + 1 ≤ fours) (lies : Inside n s stride 16 (4 * fours)) where
+  rows-inside : Inside n (s + 4 * k * stride) stride 16 4
+  rows-inside y p = inside-below n s stride 16 (4 * k) 4 (λ y' q. lies y' (omega arith)) y p
+
+module _ (c : tie.In-loop Inv-loop μ-loop) where
+  org-rows : Inside (length (now (c .before .before .before .before .args .plane-org))) (c .before .before .before .before .args .src + 4 * c .before .loop .k * c .before .before .before .before .args .stride) (c .before .before .before .before .args .stride) 16 4
+  org-rows =
+      let a = c .before .before .before .before .args in
+      rows-inside (length (now (a .plane-org))) (a .src) (a .stride) (c .before .loop .k) (a .fours) (omega arith) (c .before .before .before .before .pre .0 .0)
+
+  ref-rows : Inside (length (now (c .before .before .before .before .args .plane-ref))) (c .before .before .before .before .args .dst + 4 * c .before .loop .k * c .before .before .before .before .args .stride) (c .before .before .before .before .args .stride) 16 4
+  ref-rows =
+      let a = c .before .before .before .before .args in
+      rows-inside (length (now (a .plane-ref))) (a .dst) (a .stride) (c .before .loop .k) (a .fours) (omega arith) (c .before .before .before .before .pre .0 .1)
+
+mul-down : tie.Need-mul-down Inv-loop μ-loop
+mul-down c = omega arith
+
+mul-down-2 : tie.Need-mul-down-2 Inv-loop μ-loop
+mul-down-2 c = omega (arith, org-rows c 0 (omega arith))
+
+add-sad-four-rows : tie.Need-add-sad-four-rows Inv-loop μ-loop
+add-sad-four-rows c = omega (arith, org-rows c 0 (omega arith))
+
+add-sad-four-rows-2 : tie.Need-add-sad-four-rows-2 Inv-loop μ-loop
+add-sad-four-rows-2 c = omega (arith, ref-rows c 0 (omega arith))
+
+sad-four-rows-requires : tie.Need-sad-four-rows-requires Inv-loop μ-loop
+sad-four-rows-requires c κs = (org-rows c, ref-rows c)
+
+-- four rows of 16 bytes
+rows-bound : (c : tie.After-sad-four-rows Inv-loop μ-loop) → c .sad-four-rows .result ≤ 255 * 16 * 4
+rows-bound c =
+    let entry = c .before .before .before .before in
+    let a = entry .before .args in
+    let down = 4 * c .before .before .loop .k * a .stride in
+    let cur = a .plane-org .now in
+    let ref = a .plane-ref .now in
+    let known : Under 255 cur = λ i. omega (arith, entry .shared-slice-known .given i) in
+    let known2 : Under 255 ref = λ i. omega (arith, c .before .before .before .shared-slice-known2 .given i) in
+    omega (arith, c .sad-four-rows .ensures, block-le 255 cur ref known known2 (a .src + down) (a .dst + down) (a .stride) 16 4)
+
+add-sum : tie.Need-add-sum Inv-loop μ-loop
+add-sum c = omega (arith, rows-bound c, c .before .before .before .before .before .pre .1)
+
+add-k : tie.Need-add-k Inv-loop μ-loop
+add-k c = omega arith
+
+loop-less : tie.Need-loop-less Inv-loop μ-loop
+loop-less c = omega arith
+
+loop-again : tie.Need-loop-again Inv-loop μ-loop
+loop-again c =
+    let a = c .before .before .before .before .before .args in
+    let k = c .before .before .loop .k in
+    let next : 4 * (k + 1) ≡ 4 * k + 4 = omega arith in
+    let longer = ap (λ (h : ℕ). sadBlock (a .plane-org .now) (a .src) (a .plane-ref .now) (a .dst) (a .stride) 16 h) next in
+    let more = block-then (a .plane-org .now) (a .src) (a .plane-ref .now) (a .dst) (a .stride) 16 (4 * k) 4 in
+    (omega arith, omega (arith, rows-bound c), omega (arith, longer, more, c .before .before .loop .inv .2, c .sad-four-rows .ensures))
+
+returns : tie.Need-returns Inv-loop μ-loop
+returns c =
+    let done : c .before .loop .k ≡ c .before .before .before .before .args .fours = omega arith in
+    rw (← done) (c .before .loop .inv .2)
+
+pub sad-strip-spec : {M : Type 1} → statement M
+sad-strip-spec =
+    tie.close
+    (tie.spec
+    Inv-loop
+    μ-loop
+    loop-holds
+    mul-down
+    mul-down-2
+    add-sad-four-rows
+    add-sad-four-rows-2
+    sad-four-rows-requires
+    add-sum
+    add-k
+    loop-less
+    loop-again
+    returns)
