@@ -1,10 +1,11 @@
 -- What holds of every block that a level searches or refines, and of what its search hands back. Assumes nothing.
-use mathlib.Core.Path.{_≡_, sym, ap, subst, _∙_}
+use mathlib.Core.Path.{_≡_, refl, sym, ap, subst, _∙_}
 use mathlib.Core.Bool.{Bool, true, false, cond}
 use mathlib.Core.List.{List}
 use Prim.Native.Nat.{ℕ, _*_, _^_, _≤_, _<_}
 use native.Mathlib.Nat.{le-trans, mul-assoc}
 use native.Mathlib.Omega.{arith}
+use borrow.Author.Tests.{le-ltb}
 use lib.Dec.{ltb, eqb}
 use lib.ListN.{length, getD}
 use Rattle.motion.specs.declared.block.Block.{Block}
@@ -25,7 +26,7 @@ use Rattle.sad.proofs.Sums.{Under}
 use Rattle.sad.proofs.Contained.{lies}
 use Rattle.sad.proofs.CostLaws.{rd-in, sad-area}
 use Rattle.search.specs.declared.result.MotionSearchResult.{MotionSearchResult}
-use Rattle.search.specs.Result.{emptyResult, cheaper, tryOne}
+use Rattle.search.specs.Result.{CostOf, emptyResult, cheaper, tryOne}
 use Rattle.search.proofs.LeastLaws.{least-each, least-tried, least-cheaper, least-diamond, least-multi}
 use Rattle.search.proofs.FoundLaws.{LooseKept, Settled, loose-empty, loose-one, loose-each, loose-cheaper, loose-diamond, loose-multi, settled}
 use Rattle.predict.specs.declared.predictors.MotionEstimationSubsets.{MotionEstimationSubsets}
@@ -33,7 +34,7 @@ use Rattle.predict.specs.Grid.{cells, cellAt}
 use Rattle.predict.proofs.InsideLaws.{cell-inside}
 use Rattle.predict.proofs.SubsetLaws.{Sound}
 use Rattle.estimate.specs.Inputs.{Inputs, Leveled, four, three, two, Ready}
-use Rattle.estimate.specs.Block.{Listed, tryMvs, tryCands, shortSearch, extensiveSearch, fullPixelMe}
+use Rattle.estimate.specs.Block.{Listed, Honest, tryMvs, tryCands, shortSearch, extensiveSearch, fullPixelMe}
 
 -- a level's own size and its refined one are sizes of the table
 pub own-sized : {level : ℕ} → Leveled level → Sized (levelOf level) (levelOf level .«mv_size»)
@@ -103,6 +104,22 @@ module _ {i : Inputs} (ready : Ready i) {size bx by : ℕ} (sized : Sized (level
       ) in
       subst (λ (x : Level). Saves x b best) (sym e) (subst (λ (x : Block). Saves (levelOf (i .level)) x best) (sym f) saves)
 
+-- a vector tried again changes nothing
+pub tried-again : (rd : CostOf) (best : MotionSearchResult) (v : MotionVector) → best .mv ≡ v → best .rd ≡ rd (best .mv) → best ≡ tryOne rd best v
+unfolding tryOne cheaper
+tried-again rd best v e own =
+    let same = ap (λ (r : MVCandidateRD). r .cost) own ∙ ap (λ (u : MotionVector). rd u .cost) e in
+    rw (le-ltb (rd v .cost) (best .rd .cost) (omega arith))
+
+-- a vector tried leaves its own SAD and cost or what was there
+pub honest-one : (rd : CostOf) (best : MotionSearchResult) (v : MotionVector) → Honest rd best → Honest rd (tryOne rd best v)
+unfolding tryOne cheaper
+honest-one rd best v h = by (ltb (rd v .cost) (best .rd .cost))
+  where
+    by : (t : Bool) → Honest rd (cond t (record { mv = v; rd = rd v }) best)
+    by true = λ less. refl
+    by false = h
+
 module _ (b : Block) (cur ref : List ℕ) (weight : ℕ) where
   -- what a list and the searches make of an empty best is in range, if zero is
   pub loose-mvs : (best : MotionSearchResult) (mvs : List MotionVector) (count : ℕ) → LooseKept b cur ref weight best → LooseKept b cur ref weight (tryMvs (rdAt b cur ref weight) best mvs count)
@@ -119,13 +136,17 @@ module _ (b : Block) (cur ref : List ℕ) (weight : ℕ) where
     loose-cands mvs count =
         loose-diamond b cur ref weight (tryMvs (rdAt b cur ref weight) emptyResult mvs count) (loose-mvs emptyResult mvs count (loose-empty b cur ref weight zero-in))
 
-    -- levels 3 and 2, before diamond
+    -- levels 3 and 2: the centre, then B, then C
+    pub loose-centre : (p : MotionEstimationSubsets) → LooseKept b cur ref weight (tryOne (rdAt b cur ref weight) emptyResult (p .center))
+    loose-centre p = loose-one b cur ref weight emptyResult (p .center) (loose-empty b cur ref weight zero-in)
+
+    pub loose-near : (p : MotionEstimationSubsets) → LooseKept b cur ref weight (tryMvs (rdAt b cur ref weight) (tryOne (rdAt b cur ref weight) emptyResult (p .center)) (p .«subset_b») (p .«b_count»))
+    loose-near p = loose-mvs (tryOne (rdAt b cur ref weight) emptyResult (p .center)) (p .«subset_b») (p .«b_count») (loose-centre p)
+
     pub loose-short : (p : MotionEstimationSubsets) → LooseKept b cur ref weight (tryMvs (rdAt b cur ref weight) (tryMvs (rdAt b cur ref weight) (tryOne (rdAt b cur ref weight) emptyResult (p .center)) (p .«subset_b») (p .«b_count»)) (p .«subset_c») (p .«c_count»))
     loose-short p =
         let rd = rdAt b cur ref weight in
-        let first = tryOne rd emptyResult (p .center) in
-        loose-mvs (tryMvs rd first (p .«subset_b») (p .«b_count»)) (p .«subset_c») (p .«c_count»)
-        (loose-mvs first (p .«subset_b») (p .«b_count») (loose-one b cur ref weight emptyResult (p .center) (loose-empty b cur ref weight zero-in)))
+        loose-mvs (tryMvs rd (tryOne rd emptyResult (p .center)) (p .«subset_b») (p .«b_count»)) (p .«subset_c») (p .«c_count») (loose-near p)
 
     -- level 4, before uneven multi-hexagon
     pub loose-extensive : (p : MotionEstimationSubsets) → LooseKept b cur ref weight (cheaper (tryCands (rdAt b cur ref weight) (p .«subset_b») (p .«b_count»)) (tryCands (rdAt b cur ref weight) (p .«subset_c») (p .«c_count»)))

@@ -128,7 +128,7 @@ module _ {A : Type 0} where
           let inside : j < length xs = omega (arith, length-set xs i new) in
           set-at xs i j new new (upTo i (i + 1) j) inside refl ∙ sym (getD-replace (upTo i (i + 1)) new xs j new inside)
 
-same-grid : {g h : Grid} → g .rows ≡ h .rows → g .cols ≡ h .cols → g .sads ≡ h .sads → g ≡ h
+pub same-grid : {g h : Grid} → g .rows ≡ h .rows → g .cols ≡ h .cols → g .sads ≡ h .sads → g ≡ h
 same-grid p q r = λ i. record { rows = p i; cols = q i; sads = r i }
 
 -- what a grid holds after a save
@@ -186,14 +186,35 @@ save-joins one other stats g = same-grid (joined-from one other _ 0 (g .rows)) (
 pub same-test : (one other : ℕ → Bool) (stats : MEStats) (g : Grid) → ((i : ℕ) → one i ≡ other i) → saveWhere one stats g ≡ saveWhere other stats g
 same-test one other stats g h = ap (λ (test : ℕ → Bool). saveWhere test stats g) (λ j i. h i j)
 
--- the cells from `low` up to i hold the result, and then the next does
-pub save-next : (low i : ℕ) (stats : MEStats) (g h : Grid) → low ≤ i → h ≡ saveWhere (upTo low i) stats g → gridOf (set (h .rows) i (stats .mv .row)) (set (h .cols) i (stats .mv .col)) (set (h .sads) i (stats .«normalized_sad»)) ≡ saveWhere (upTo low (i + 1)) stats g
+-- no cell holds the result yet
+pub save-begins : {low i : ℕ} → low ≡ i → (stats : MEStats) (g : Grid) → g ≡ saveWhere (upTo low i) stats g
+save-begins {low} {i} p stats g = sym (save-none (upTo low i) stats g (λ j. ap (λ (m : ℕ). upTo low m j) (sym p) ∙ up-to-none low j))
+
+-- the cells from `low` up to i hold it, and then those up to `high` do
+pub save-on : {low i high : ℕ} → low ≤ i → i ≤ high → (stats : MEStats) (g : Grid) {h : Grid} → h ≡ saveWhere (upTo low i) stats g → saveWhere (upTo i high) stats h ≡ saveWhere (upTo low high) stats g
+save-on {low} {i} {high} p q stats g e =
+    ap (saveWhere (upTo i high) stats) e
+    ∙ save-joins (upTo i high) (upTo low i) stats g
+    ∙ same-test _ _ stats g (λ j. up-to-joins low i high j p q)
+
+-- or the next one
+pub save-next : {low i next : ℕ} → low ≤ i → i + 1 ≡ next → (stats : MEStats) (g : Grid) {h : Grid} → h ≡ saveWhere (upTo low i) stats g → gridOf (set (h .rows) i (stats .mv .row)) (set (h .cols) i (stats .mv .col)) (set (h .sads) i (stats .«normalized_sad»)) ≡ saveWhere (upTo low next) stats g
 unfolding saveWhere
-save-next low i stats g h p e =
+save-next {low} {i} p n stats g {h} e =
     same-grid {h = saveWhere (upTo i (i + 1)) stats h} (set-replaces (h .rows) i _) (set-replaces (h .cols) i _) (set-replaces (h .sads) i _)
-    ∙ ap (saveWhere (upTo i (i + 1)) stats) e
-    ∙ save-joins (upTo i (i + 1)) (upTo low i) stats g
-    ∙ same-test _ _ stats g (λ j. up-to-joins low i (i + 1) j p (omega arith))
+    ∙ save-on p (omega arith) stats g e
+    ∙ ap (λ (m : ℕ). saveWhere (upTo low m) stats g) n
+
+abbrev setFour : {A : Type 0} → List A → ℕ → A → List A
+setFour xs i new = set (set (set (set xs i new) (i + 1) new) (i + 2) new) (i + 3) new
+
+-- or the next four
+pub save-four : {low i : ℕ} → low ≤ i → (stats : MEStats) (g : Grid) {h : Grid} → h ≡ saveWhere (upTo low i) stats g → gridOf (setFour (h .rows) i (stats .mv .row)) (setFour (h .cols) i (stats .mv .col)) (setFour (h .sads) i (stats .«normalized_sad»)) ≡ saveWhere (upTo low (i + 4)) stats g
+save-four {low} {i} p stats g {h} e =
+    let one = save-next p refl stats g e in
+    let two : gridOf _ _ _ ≡ saveWhere (upTo low (i + 2)) stats g = save-next (omega arith) (omega arith) stats g one in
+    let three : gridOf _ _ _ ≡ saveWhere (upTo low (i + 3)) stats g = save-next (omega arith) (omega arith) stats g two in
+    save-next (omega arith) (omega arith) stats g three
 
 -- a block's cells by their columns and rows
 pub covers-at : (width height size bx by x y : ℕ) → x < width / cellSide → covers width height size bx by (cellAt width x y) ≡ (upTo bx (bx + size / cellSide) x && (upTo by (by + size / cellSide) y && ltb y (height / cellSide)))

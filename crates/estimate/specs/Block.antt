@@ -1,6 +1,6 @@
 -- One block: its search from its predictors, or its refinement, and what is saved of the result.
 use mathlib.Core.Path.{_≡_}
-use Prim.Native.Nat.{ℕ, _*_, _/_, _^_, _≤_}
+use Prim.Native.Nat.{ℕ, _-_, _*_, _/_, _^_, _≤_, _<_}
 use mathlib.Core.Bool.{cond}
 use mathlib.Core.List.{List}
 use lib.Dec.{ltb, eqb}
@@ -31,6 +31,10 @@ pub record Listed (p : MotionEstimationSubsets) : Type 0 where
   pub c-few : p .«c_count» ≤ slots
   pub b-slots : length (p .«subset_b») ≡ slots
   pub c-slots : length (p .«subset_c») ≡ slots
+
+-- a best so far that costs less than the most has its own vector's SAD and cost
+abbrev pub Honest : CostOf → MotionSearchResult → Type 0
+Honest rd best = best .rd .cost < 2 ^ 64 - 1 → best .rd ≡ rd (best .mv)
 
 -- the block of a size at a cell
 unfoldable pub blockIn : Inputs → ℕ → ℕ → ℕ → Block

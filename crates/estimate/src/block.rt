@@ -24,11 +24,35 @@ ghost use Rattle.motion.specs.Level.{levelOf};
 ghost use Rattle.motion.specs.Frame.{Side, Starts};
 ghost use Rattle.sad.specs.Plane.{Lies};
 ghost use Rattle.sad.specs.Cost.{rdAt};
+ghost use Rattle.search.specs.Result.{tryOne};
 ghost use Rattle.search.specs.Full.{windowOk};
 ghost use Rattle.predict.specs.Grid.{Held, cells, cellAt, gridOf};
 ghost use Rattle.predict.specs.Slots.{slots};
 ghost use Rattle.estimate.specs.Inputs.{Ready, Leveled, HeldIf, inputsOf, previousOf};
-ghost use Rattle.estimate.specs.Block.{Listed, tryMvs, shortSearch, tryCands, extensiveSearch, fullPixelMe, statsOf, estimateMotion, firstStored, windowAt, refineMotion};
+ghost use Rattle.estimate.specs.Block.{Listed, Honest, tryMvs, shortSearch, tryCands, extensiveSearch, fullPixelMe, statsOf, estimateMotion, firstStored, windowAt, refineMotion};
+
+// Tries a vector, unless the best so far is that vector's already: it can't be cheaper than itself.
+fn try_unless_best(
+    b: Block,
+    cur: &[u8],
+    reference: &[u8],
+    lambda: u32,
+    best: MotionSearchResult,
+    mv: MotionVector,
+) -> MotionSearchResult
+    requires { ⌜ Lies b (length (now cur)) × Lies b (length (now reference)) ⌝ }
+    requires { ⌜ Honest (rdAt b (now cur) (now reference) lambda) best ⌝ }
+    ensures { λ r. ⌜ r ≡ tryOne (rdAt b (now (cur .entry)) (now (reference .entry)) lambda) best mv ⌝ }
+{
+    if best.mv.row == mv.row {
+        if best.mv.col == mv.col {
+            if best.rd.cost < 0xffff_ffff_ffff_ffff {
+                return best;
+            }
+        }
+    }
+    best.try_mv(b, cur, reference, lambda, mv)
+}
 
 // Tries the vectors of a list, in turn.
 fn try_mvs(
@@ -41,13 +65,13 @@ fn try_mvs(
     count: usize,
 ) -> MotionSearchResult
     requires { ⌜ Lies b (length (now cur)) × Lies b (length (now reference)) ⌝ }
-    requires { ⌜ (count ≤ slots) × (length mvs ≡ slots) ⌝ }
+    requires { ⌜ (count ≤ slots) × (length mvs ≡ slots) × Honest (rdAt b (now cur) (now reference) lambda) current ⌝ }
     ensures { λ r. ⌜ r ≡ tryMvs (rdAt b (now (cur .entry)) (now (reference .entry)) lambda) current mvs count ⌝ }
 {
     let mut best = current;
     let mut k = 0;
     while k < count {
-        best = best.try_mv(b, cur, reference, lambda, mvs[k]);
+        best = try_unless_best(b, cur, reference, lambda, best, mvs[k]);
         k += 1;
     }
     best

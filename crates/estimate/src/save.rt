@@ -2,12 +2,72 @@ use predict::grid::MEStats;
 use predict::grid::cell_at;
 ghost use mathlib.Core.Path.{_≡_};
 ghost use Prim.Native.Nat.{_+_, _/_, _≤_, _<_, min};
-ghost use lib.ListN.{length};
+ghost use lib.ListN.{length, set};
 ghost use Rattle.motion.specs.Limits.{largestSide, cellSide};
 ghost use Rattle.predict.specs.Grid.{Held, gridOf};
 ghost use Rattle.estimate.specs.Save.{upTo, saveWhere, saveBlock};
 
-// One result over the cells from `from` up to `to`.
+// Four cells of one buffer, one after the other, which the compiler makes one store.
+fn set_four(i: usize, new: i16, buf: &mut [i16])
+    requires { ⌜ (i + 1 < length (now buf)) × (i + 2 < length (now buf)) × (i + 3 < length (now buf)) ⌝ }
+    ensures { λ r. ⌜ now (buf .exit) ≡ set (set (set (set (now (buf .entry)) i new) (i + 1) new) (i + 2) new) (i + 3) new ⌝ }
+{
+    buf[i] = new;
+    buf[i + 1] = new;
+    buf[i + 2] = new;
+    buf[i + 3] = new;
+}
+
+fn set_four_sads(i: usize, sad: u32, sads: &mut [u32])
+    requires { ⌜ (i + 1 < length (now sads)) × (i + 2 < length (now sads)) × (i + 3 < length (now sads)) ⌝ }
+    ensures { λ r. ⌜ now (sads .exit) ≡ set (set (set (set (now (sads .entry)) i sad) (i + 1) sad) (i + 2) sad) (i + 3) sad ⌝ }
+{
+    sads[i] = sad;
+    sads[i + 1] = sad;
+    sads[i + 2] = sad;
+    sads[i + 3] = sad;
+}
+
+// One result in one cell.
+fn save_cell(i: usize, stats: MEStats, rows: &mut [i16], cols: &mut [i16], sads: &mut [u32])
+    requires { ⌜ (i < length (now rows)) × (i < length (now cols)) × (i < length (now sads)) ⌝ }
+    ensures { λ r. ⌜ gridOf (now (rows .exit)) (now (cols .exit)) (now (sads .exit)) ≡ gridOf (set (now (rows .entry)) i (stats .mv .row)) (set (now (cols .entry)) i (stats .mv .col)) (set (now (sads .entry)) i (stats .«normalized_sad»)) ⌝ }
+{
+    let row = stats.mv.row;
+    let col = stats.mv.col;
+    rows[i] = row;
+    cols[i] = col;
+    sads[i] = stats.normalized_sad;
+}
+
+// One result over at most three cells. No loop: the compiler would widen it, at a cost to every row.
+fn save_rest(
+    from: usize,
+    to: usize,
+    stats: MEStats,
+    rows: &mut [i16],
+    cols: &mut [i16],
+    sads: &mut [u32],
+)
+    requires { ⌜ («from» ≤ to) × (to ≤ «from» + 3) ⌝ }
+    requires { ⌜ (to ≤ length (now rows)) × (to ≤ length (now cols)) × (to ≤ length (now sads)) ⌝ }
+    ensures { λ r. ⌜ gridOf (now (rows .exit)) (now (cols .exit)) (now (sads .exit)) ≡ saveWhere (upTo «from» to) stats (gridOf (now (rows .entry)) (now (cols .entry)) (now (sads .entry))) ⌝ }
+{
+    if from == to {
+        return;
+    }
+    save_cell(from, stats, rows, cols, sads);
+    if from + 1 == to {
+        return;
+    }
+    save_cell(from + 1, stats, rows, cols, sads);
+    if from + 2 == to {
+        return;
+    }
+    save_cell(from + 2, stats, rows, cols, sads);
+}
+
+// One result over the cells from `from` up to `to`, four at a time.
 fn save_row(
     from: usize,
     to: usize,
@@ -16,19 +76,17 @@ fn save_row(
     cols: &mut [i16],
     sads: &mut [u32],
 )
-    requires { ⌜ (to ≤ length (now rows)) × (to ≤ length (now cols)) × (to ≤ length (now sads)) ⌝ }
+    requires { ⌜ («from» ≤ to) × (to ≤ length (now rows)) × (to ≤ length (now cols)) × (to ≤ length (now sads)) ⌝ }
     ensures { λ r. ⌜ gridOf (now (rows .exit)) (now (cols .exit)) (now (sads .exit)) ≡ saveWhere (upTo «from» to) stats (gridOf (now (rows .entry)) (now (cols .entry)) (now (sads .entry))) ⌝ }
 {
-    let row = stats.mv.row;
-    let col = stats.mv.col;
-    let sad = stats.normalized_sad;
     let mut i = from;
-    while i < to {
-        rows[i] = row;
-        cols[i] = col;
-        sads[i] = sad;
-        i += 1;
+    while 4 <= to - i {
+        set_four(i, stats.mv.row, rows);
+        set_four(i, stats.mv.col, cols);
+        set_four_sads(i, stats.normalized_sad, sads);
+        i += 4;
     }
+    save_rest(i, to, stats, rows, cols, sads);
 }
 
 // Where a block's cells end along a side, cropped at the frame.

@@ -8,24 +8,31 @@ use Rattle.search.specs.declared.result.MotionSearchResult.{MotionSearchResult}
 use Rattle.search.specs.Result.{CostOf, emptyResult, tryOne}
 use Rattle.search.specs.Diamond.{diamond}
 use Rattle.search.proofs.InRange.{Ranged}
-use Rattle.estimate.specs.Block.{tryMvs, shortSearch}
-use Rattle.estimate.proofs.BlockFacts.{loose-short}
+use Rattle.estimate.specs.Block.{Honest, tryMvs, shortSearch}
+use Rattle.estimate.proofs.BlockFacts.{loose-centre, loose-near, loose-short}
 use Rattle.estimate.proofs.block.short_search.Statement.{statement}
 use Rattle.estimate.proofs.block.short_search.Tie as tie
 
 abbrev cost : tie.Start → CostOf
 cost c = rdAt (c .args .b) (now (c .args .cur)) (now (c .args .reference)) (c .args .lambda)
 
+abbrev middle : tie.Start → MotionSearchResult
+middle c = tryOne (cost c) emptyResult (c .args .p .center)
+
+middle-is : (c : tie.After-try-mv) → c .try-mv .result ≡ middle (c .before .before .before .before .before .before)
+middle-is c =
+    let entry = c .before .before .before .before .before .before in
+    c .try-mv .ensures ∙ ap (λ (m : MotionSearchResult). tryOne (cost entry) m (entry .args .p .center)) (c .before .before .before .empty .ensures)
+
 -- the centre, then B
 abbrev near : tie.Start → MotionSearchResult
-near c = tryMvs (cost c) (tryOne (cost c) emptyResult (c .args .p .center)) (c .args .p .«subset_b») (c .args .p .«b_count»)
+near c = tryMvs (cost c) (middle c) (c .args .p .«subset_b») (c .args .p .«b_count»)
 
 near-is : (c : tie.After-try-mvs) → c .try-mvs .result ≡ near (c .before .before .before .before .before .before .before)
 near-is c =
     let entry = c .before .before .before .before .before .before .before in
     let p = entry .args .p in
-    let first = c .before .try-mv .ensures ∙ ap (λ (m : MotionSearchResult). tryOne (cost entry) m (p .center)) (c .before .before .before .before .empty .ensures) in
-    c .try-mvs .ensures ∙ ap (λ (m : MotionSearchResult). tryMvs (cost entry) m (p .«subset_b») (p .«b_count»)) first
+    c .try-mvs .ensures ∙ ap (λ (m : MotionSearchResult). tryMvs (cost entry) m (p .«subset_b») (p .«b_count»)) (middle-is (c .before))
 
 -- then C
 tried : (c : tie.After-try-mvs2) → c .try-mvs2 .result ≡ tryMvs (cost (c .before .before .before .before .before .before .before .before)) (near (c .before .before .before .before .before .before .before .before)) (c .before .before .before .before .before .before .before .before .args .p .«subset_c») (c .before .before .before .before .before .before .before .before .args .p .«c_count»)
@@ -41,10 +48,18 @@ try-mv-requires : tie.Need-try-mv-requires
 try-mv-requires c κs = search needs
 
 try-mvs-requires : tie.Need-try-mvs-requires
-try-mvs-requires c κs = search needs
+try-mvs-requires c κs =
+    let entry = c .before .before .before .before .before .before in
+    let a = entry .args in
+    let loose = loose-centre (a .b) (now (a .cur)) (now (a .reference)) (a .lambda) (entry .pre .1 .1) (a .p) in
+    (search needs, (search needs, search needs, subst (Honest (cost entry)) (sym (middle-is c)) (loose .holds .own)))
 
 try-mvs-requires-2 : tie.Need-try-mvs-requires-2
-try-mvs-requires-2 c κs = search needs
+try-mvs-requires-2 c κs =
+    let entry = c .before .before .before .before .before .before .before in
+    let a = entry .args in
+    let loose = loose-near (a .b) (now (a .cur)) (now (a .reference)) (a .lambda) (entry .pre .1 .1) (a .p) in
+    (search needs, (search needs, search needs, subst (Honest (cost entry)) (sym (near-is c)) (loose .holds .own)))
 
 fullpel-diamond-search-requires : tie.Need-fullpel-diamond-search-requires
 fullpel-diamond-search-requires c κs =

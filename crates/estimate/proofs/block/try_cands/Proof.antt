@@ -8,8 +8,8 @@ use Rattle.search.specs.declared.result.MotionSearchResult.{MotionSearchResult}
 use Rattle.search.specs.Result.{CostOf, emptyResult}
 use Rattle.search.specs.Diamond.{diamond}
 use Rattle.search.proofs.InRange.{Ranged}
-use Rattle.search.proofs.FoundLaws.{loose-empty}
-use Rattle.estimate.specs.Block.{tryMvs, tryCands}
+use Rattle.search.proofs.FoundLaws.{LooseKept, loose-empty}
+use Rattle.estimate.specs.Block.{Honest, tryMvs, tryCands}
 use Rattle.estimate.proofs.BlockFacts.{loose-mvs}
 use Rattle.estimate.proofs.block.try_cands.Statement.{statement}
 use Rattle.estimate.proofs.block.try_cands.Tie as tie
@@ -25,15 +25,20 @@ tried c =
 empty-requires : tie.Need-empty-requires
 empty-requires c κs = search needs
 
+-- the empty best has zero in range, and costs the most
+first : (c : tie.Start) → LooseKept (c .args .b) (now (c .args .cur)) (now (c .args .reference)) (c .args .lambda) emptyResult
+first c = loose-empty (c .args .b) (now (c .args .cur)) (now (c .args .reference)) (c .args .lambda) (c .pre .1 .2)
+
 try-mvs-requires : tie.Need-try-mvs-requires
-try-mvs-requires c κs = search needs
+try-mvs-requires c κs =
+    let entry = c .before .before .before in
+    (search needs, (search needs, search needs, subst (Honest (cost entry)) (sym (c .empty .ensures)) (first entry .holds .own)))
 
 fullpel-diamond-search-requires : tie.Need-fullpel-diamond-search-requires
 fullpel-diamond-search-requires c κs =
     let entry = c .before .before .before .before in
     let a = entry .args in
-    let first = loose-empty (a .b) (now (a .cur)) (now (a .reference)) (a .lambda) (entry .pre .1 .2) in
-    let kept = loose-mvs (a .b) (now (a .cur)) (now (a .reference)) (a .lambda) emptyResult (a .mvs) (a .count) first in
+    let kept = loose-mvs (a .b) (now (a .cur)) (now (a .reference)) (a .lambda) emptyResult (a .mvs) (a .count) (first entry) in
     (entry .pre .0, subst (Ranged (a .b)) (sym (tried c)) (kept .holds .in-range))
 
 returns : tie.Need-returns

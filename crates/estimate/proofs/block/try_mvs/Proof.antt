@@ -1,6 +1,6 @@
--- `estimate::block::try_mvs` meets its contract: after k turns the best is that of k vectors.
+-- `estimate::block::try_mvs` meets its contract: after k turns the best is that of k vectors, and honest.
 -- Assumes nothing.
-use mathlib.Core.Path.{_≡_, sym, ap, _∙_}
+use mathlib.Core.Path.{_≡_, sym, ap, subst, _∙_}
 use Prim.Native.Nat.{ℕ, _-_, _≤_}
 use native.Mathlib.Omega.{arith}
 use lib.ListN.{getD}
@@ -11,13 +11,16 @@ use Rattle.sad.specs.Cost.{rdAt}
 use Rattle.search.specs.declared.result.MotionSearchResult.{MotionSearchResult}
 use Rattle.search.specs.Result.{tryOne, tryEach}
 use Rattle.search.proofs.ResultLaws.{each-none, each-more}
-use Rattle.estimate.specs.Block.{tryMvs}
+use Rattle.estimate.specs.Block.{Honest, tryMvs}
+use Rattle.estimate.proofs.BlockFacts.{honest-one}
 use Rattle.estimate.proofs.block.try_mvs.Statement.{statement}
 use Rattle.estimate.proofs.block.try_mvs.Tie as tie
 
 abbrev Inv-loop : tie.InvT-loop
 Inv-loop b cur reference lambda count mvs best₀ k₀ best k =
-    (k ≤ count) × (best ≡ tryEach (rdAt b cur reference lambda) best₀ k (λ j. getD mvs j zeroV))
+    (k ≤ count)
+    × (best ≡ tryEach (rdAt b cur reference lambda) best₀ k (λ j. getD mvs j zeroV))
+    × Honest (rdAt b cur reference lambda) best
 
 abbrev μ-loop : tie.MeasureT-loop
 μ-loop b cur reference lambda count mvs best₀ k₀ best k = count - k
@@ -26,16 +29,18 @@ loop-holds : tie.Need-loop-holds Inv-loop μ-loop
 loop-holds c =
     let a = c .before .before .args in
     let vs : ℕ → MotionVector = λ j. getD (a .t6) j zeroV in
-    (omega arith, sym (each-none (rdAt (a .b) (now (a .cur)) (now (a .reference)) (a .lambda)) (a .current) vs))
+    (omega arith, sym (each-none (rdAt (a .b) (now (a .cur)) (now (a .reference)) (a .lambda)) (a .current) vs), c .before .before .pre .1 .2)
 
-mul-try-mv : tie.Need-mul-try-mv Inv-loop μ-loop
-mul-try-mv c = omega arith
+mul-try-unless-best : tie.Need-mul-try-unless-best Inv-loop μ-loop
+mul-try-unless-best c = omega arith
 
-array-copy-out-try-mv : tie.Need-array-copy-out-try-mv Inv-loop μ-loop
-array-copy-out-try-mv c = omega arith
+array-copy-out-try-unless-best : tie.Need-array-copy-out-try-unless-best Inv-loop μ-loop
+array-copy-out-try-unless-best c = omega arith
 
-try-mv-requires : tie.Need-try-mv-requires Inv-loop μ-loop
-try-mv-requires c κs = c .before .before .before .before .before .pre .0
+try-unless-best-requires : tie.Need-try-unless-best-requires Inv-loop μ-loop
+try-unless-best-requires c κs =
+    let at = c .before .before in
+    (at .before .before .before .pre .0, at .loop .inv .2)
 
 add-k : tie.Need-add-k Inv-loop μ-loop
 add-k c = omega arith
@@ -49,7 +54,11 @@ loop-again c =
     let a = at .before .before .before .args in
     let rd = rdAt (a .b) (now (a .cur)) (now (a .reference)) (a .lambda) in
     let vs : ℕ → MotionVector = λ j. getD (a .t6) j zeroV in
-    (omega arith, c .try-mv .ensures ∙ ap (λ (m : MotionSearchResult). tryOne rd m (vs (at .loop .k))) (at .loop .inv .1) ∙ sym (each-more rd (a .current) (at .loop .k) vs))
+    let tried = c .try-unless-best .ensures in (
+      omega arith,
+      tried ∙ ap (λ (m : MotionSearchResult). tryOne rd m (vs (at .loop .k))) (at .loop .inv .1) ∙ sym (each-more rd (a .current) (at .loop .k) vs),
+      subst (Honest rd) (sym tried) (honest-one rd _ _ (at .loop .inv .2)),
+    )
 
 returns : tie.Need-returns Inv-loop μ-loop
 unfolding tryMvs
@@ -68,9 +77,9 @@ try-mvs-spec =
     Inv-loop
     μ-loop
     loop-holds
-    mul-try-mv
-    array-copy-out-try-mv
-    try-mv-requires
+    mul-try-unless-best
+    array-copy-out-try-unless-best
+    try-unless-best-requires
     add-k
     loop-less
     loop-again

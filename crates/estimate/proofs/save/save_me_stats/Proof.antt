@@ -43,13 +43,14 @@ cell-at-requires-2 : tie.Need-cell-at-requires-2 Inv-loop μ-loop
 cell-at-requires-2 c κs = omega arith
 
 save-row-requires : tie.Need-save-row-requires Inv-loop μ-loop
+unfolding cellAt
 save-row-requires c κs =
     let turn = c .before .before .before in
     let at-loop = turn .before .before .before in
     let first = at-loop .before .before .before .before in
     let a = first .args in
     let inside = row-inside (a .width) (a .height) (at-loop .before .before .block-end .result) (at-loop .loop .y) (omega arith) (omega arith) (omega arith) in
-    omega (arith, inside, turn .cell-at2 .ensures, lengths at-loop, first .pre .1)
+    omega (arith, inside, turn .before .cell-at .ensures, turn .cell-at2 .ensures, lengths at-loop, first .pre .1)
 
 add-y : tie.Need-add-y Inv-loop μ-loop
 add-y c = omega arith

@@ -1,59 +1,47 @@
 -- `estimate::save::save_row` meets its contract: after the turns up to i the cells from the first up to i hold the result.
 -- Assumes nothing.
 use borrow.Author.Needs.{needs}
-use mathlib.Core.Path.{_≡_, sym, ap, _∙_}
-use Prim.Native.Nat.{ℕ, _+_, _-_, _≤_}
+use mathlib.Core.Path.{_≡_, refl, _∙_}
+use Prim.Native.Nat.{_-_, _≤_}
 use native.Mathlib.Omega.{arith}
 use lib.ListN.{length}
 use denote.Ref.{now}
 use mir.Syntax.{w16}
-use mir.Val.{toZ, ofZ, SFits}
+use mir.Val.{SFits}
 use mir.ValLaws.{toZ-ofZ}
-use Rattle.predict.specs.declared.grid.MEStats.{MEStats}
 use Rattle.predict.specs.Grid.{gridOf}
 use Rattle.estimate.specs.Save.{upTo, saveWhere}
-use Rattle.motion.proofs.TestLaws.{same}
-use Rattle.estimate.proofs.SaveLaws.{up-to-true, true-up-to, up-to-none, saved-lengths, save-none, save-next, same-test}
+use Rattle.estimate.proofs.SaveLaws.{same-grid, saved-lengths, save-begins, save-on, save-four}
 use Rattle.estimate.proofs.save.save_row.Statement.{statement}
 use Rattle.estimate.proofs.save.save_row.Tie as tie
 
--- components are held in bits
-abbrev ofBits : ℕ → ℕ → ℕ → MEStats
-ofBits row col sad = record { mv = record { row = toZ w16 row; col = toZ w16 col }; «normalized_sad» = sad }
-
 abbrev Inv-loop : tie.InvT-loop
-Inv-loop from to rows₀ cols₀ sads₀ row col sad i₀ rows cols sads i =
+Inv-loop from to stats rows₀ cols₀ sads₀ i₀ rows cols sads i =
     (from ≤ i)
-    × (i ≤ to + (from - to))
-    × (gridOf rows cols sads ≡ saveWhere (upTo from i) (ofBits row col sad) (gridOf rows₀ cols₀ sads₀))
+    × (i ≤ to)
+    × (gridOf rows cols sads ≡ saveWhere (upTo from i) stats (gridOf rows₀ cols₀ sads₀))
 
 abbrev μ-loop : tie.MeasureT-loop
-μ-loop from to rows₀ cols₀ sads₀ row col sad i₀ rows cols sads i = to - i
+μ-loop from to stats rows₀ cols₀ sads₀ i₀ rows cols sads i = to - i
 
 loop-holds : tie.Need-loop-holds Inv-loop μ-loop
-loop-holds c = (omega arith, omega arith, sym (save-none _ _ _ (up-to-none _)))
+loop-holds c = (omega arith, omega arith, save-begins refl _ _)
 
--- no store changes a length
-lengths : (c : tie.At-loop Inv-loop μ-loop) → (length (c .loop .rows) ≡ length (now (c .before .before .before .args .rows))) × (length (c .loop .cols) ≡ length (now (c .before .before .before .args .cols))) × (length (c .loop .sads) ≡ length (now (c .before .before .before .args .sads)))
+sub-loop : tie.Need-sub-loop Inv-loop μ-loop
+sub-loop c = omega arith
+
+-- no save changes a length
+lengths : (c : tie.At-loop Inv-loop μ-loop) → (length (c .loop .rows) ≡ length (now (c .before .before .args .rows))) × (length (c .loop .cols) ≡ length (now (c .before .before .args .cols))) × (length (c .loop .sads) ≡ length (now (c .before .before .args .sads)))
 lengths c = saved-lengths _ _ _ _ (c .loop .inv .2)
 
-mul-row : tie.Need-mul-row Inv-loop μ-loop
-mul-row c = omega arith
+set-four-requires : tie.Need-set-four-requires Inv-loop μ-loop
+set-four-requires c κs = omega (arith, lengths (c .before .before .before))
 
-slice-set-from-row : tie.Need-slice-set-from-row Inv-loop μ-loop
-slice-set-from-row c = omega (arith, lengths (c .before))
+set-four-requires-2 : tie.Need-set-four-requires-2 Inv-loop μ-loop
+set-four-requires-2 c κs = omega (arith, lengths (c .before .before .before .before .before .before .before))
 
-mul-col : tie.Need-mul-col Inv-loop μ-loop
-mul-col c = omega arith
-
-slice-set-from-col : tie.Need-slice-set-from-col Inv-loop μ-loop
-slice-set-from-col c = omega (arith, lengths (c .before))
-
-mul-sads : tie.Need-mul-sads Inv-loop μ-loop
-mul-sads c = omega arith
-
-slice-write-sads : tie.Need-slice-write-sads Inv-loop μ-loop
-slice-write-sads c = omega (arith, lengths (c .before))
+set-four-sads-requires : tie.Need-set-four-sads-requires Inv-loop μ-loop
+set-four-sads-requires c κs = omega (arith, lengths (c .before .before .before .before .before .before .before .before .before .before))
 
 add-i : tie.Need-add-i Inv-loop μ-loop
 add-i c = omega arith
@@ -61,34 +49,42 @@ add-i c = omega arith
 loop-less : tie.Need-loop-less Inv-loop μ-loop
 loop-less c = omega arith
 
+-- components are held in bits
+fits : (c : tie.Start Inv-loop μ-loop) → SFits w16 (c .args .stats .mv .row) × SFits w16 (c .args .stats .mv .col)
+fits c = search needs
+
 loop-again : tie.Need-loop-again Inv-loop μ-loop
-loop-again c = (omega arith, omega arith, save-next _ _ _ _ _ (c .before .loop .inv .0) (c .before .loop .inv .2))
+loop-again c =
+    let third = c .before .before in
+    let second = third .before .before .before in
+    let first = second .before .before .before .before in
+    let at = first .before .before .before .before in
+    let row = fits (at .before .before) .0 in
+    let col = fits (at .before .before) .1 in
+    let rows = simp toZ-ofZ at (first .set-four .ensures) in
+    let cols = simp toZ-ofZ at (second .set-four2 .ensures) in (
+      omega arith,
+      omega arith,
+      same-grid rows cols (third .set-four-sads .ensures) ∙ save-four (at .loop .inv .0) _ _ (at .loop .inv .2),
+    )
 
-same-length : tie.Need-same-length Inv-loop μ-loop
-same-length c = lengths (c .before) .0
-
-same-length-2 : tie.Need-same-length-2 Inv-loop μ-loop
-same-length-2 c = lengths (c .before) .1
-
-same-length-3 : tie.Need-same-length-3 Inv-loop μ-loop
-same-length-3 c = lengths (c .before) .2
-
--- at the end i is `to`, unless no turn was taken
-ended : (from to i : ℕ) → to ≤ i → i ≤ to + (from - to) → (j : ℕ) → upTo from i j ≡ upTo from to j
-ended from to i p q j =
-    same _ _
-    (λ e. let h = up-to-true from i j e in true-up-to from to j (omega arith) (omega arith))
-    (λ e. let h = up-to-true from to j e in true-up-to from i j (omega arith) (omega arith))
+save-rest-requires : tie.Need-save-rest-requires Inv-loop μ-loop
+save-rest-requires c κs = omega (arith, lengths (c .before .before .before .before))
 
 returns : tie.Need-returns Inv-loop μ-loop
 returns c =
-    let a = c .before .before .before .before .args in
-    let row : SFits w16 (a .stats .mv .row) = search needs in
-    let col : SFits w16 (a .stats .mv .col) = search needs in
-    let same : ofBits (ofZ w16 (a .stats .mv .row)) (ofZ w16 (a .stats .mv .col)) (a .stats .«normalized_sad») ≡ a .stats = simp toZ-ofZ in
-    c .before .loop .inv .2
-    ∙ same-test _ _ _ _ (ended (a .from) (a .to) (c .before .loop .i) (omega arith) (omega arith))
-    ∙ ap (λ (stats : MEStats). saveWhere (upTo (a .from) (a .to)) stats (gridOf (now (a .rows)) (now (a .cols)) (now (a .sads)))) same
+    let last = c .before .before .before .before in
+    let at = last .before .before .before .before .before in
+    last .save-rest .ensures ∙ save-on (at .loop .inv .0) (at .loop .inv .1) _ _ (at .loop .inv .2)
+
+same-length : tie.Need-same-length Inv-loop μ-loop
+same-length c = saved-lengths _ _ _ _ (returns c) .0
+
+same-length-2 : tie.Need-same-length-2 Inv-loop μ-loop
+same-length-2 c = saved-lengths _ _ _ _ (returns c) .1
+
+same-length-3 : tie.Need-same-length-3 Inv-loop μ-loop
+same-length-3 c = saved-lengths _ _ _ _ (returns c) .2
 
 pub save-row-spec : {M : Type 1} → statement M
 save-row-spec =
@@ -97,15 +93,14 @@ save-row-spec =
     Inv-loop
     μ-loop
     loop-holds
-    mul-row
-    slice-set-from-row
-    mul-col
-    slice-set-from-col
-    mul-sads
-    slice-write-sads
+    sub-loop
+    set-four-requires
+    set-four-requires-2
+    set-four-sads-requires
     add-i
     loop-less
     loop-again
+    save-rest-requires
     same-length
     same-length-2
     same-length-3
