@@ -4,13 +4,10 @@
 //     X Y ROW COL SAD           a line for each cell, row by row
 //
 // or `refused NUMBER` where the run is refused.
-mod print;
-
-use crate::print::natural;
-use crate::print::space;
-use crate::print::text;
-use crate::print::whole;
 use inter::runs::lockdapple_frame_run;
+use print::grid;
+use print::labelled;
+use print::text;
 
 const WIDTH: usize = 8;
 
@@ -26,27 +23,6 @@ const FULL: usize = 8 + 2 * 48;
 const HALF: usize = 4 + 2 * 40;
 
 const QUARTER: usize = 2 + 2 * 20;
-
-fn cell(i: usize, row: i16, col: i16, sad: u32) {
-    natural((i % ACROSS) as u64);
-    space();
-    natural((i / ACROSS) as u64);
-    space();
-    whole(row);
-    space();
-    whole(col);
-    space();
-    natural(sad as u64);
-    text(b"\n");
-}
-
-fn cells(rows: &[i16; CELLS], cols: &[i16; CELLS], sads: &[u32; CELLS]) {
-    let mut i = 0;
-    while i < CELLS {
-        cell(i, rows[i], cols[i], sads[i]);
-        i += 1;
-    }
-}
 
 fn main() {
     let full = [90u8; FULL * FULL];
@@ -77,15 +53,9 @@ fn main() {
         &mut sads,
     );
     if code != 0 {
-        text(b"refused ");
-        natural(code as u64);
+        labelled(b"refused ", code as u64);
         text(b"\n");
         return;
     }
-    text(b"cells ");
-    natural(ACROSS as u64);
-    space();
-    natural((HEIGHT / 4) as u64);
-    text(b"\n");
-    cells(&rows, &cols, &sads);
+    grid(ACROSS, CELLS, &rows, &cols, &sads);
 }

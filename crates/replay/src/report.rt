@@ -1,13 +1,6 @@
 use crate::tally::Tally;
-use libc::STDOUT_FILENO;
-
-fn text(s: &[u8]) {
-    io::write_all(STDOUT_FILENO, s);
-}
-
-fn natural(n: u64) {
-    io::print_decimal(STDOUT_FILENO, n);
-}
+use print::labelled;
+use print::text;
 
 pub(crate) fn cannot_read(file: &[u8]) {
     text(b"cannot read ");
@@ -17,10 +10,8 @@ pub(crate) fn cannot_read(file: &[u8]) {
 
 pub(crate) fn equal_of(what: &[u8], tally: Tally) {
     text(what);
-    text(b" ");
-    natural(tally.equal);
-    text(b" of ");
-    natural(tally.read);
+    labelled(b" ", tally.equal);
+    labelled(b" of ", tally.read);
     text(b"\n");
 }
 
@@ -32,8 +23,7 @@ fn at_line(what: &[u8], name: &[u8], line: u64) {
     text(what);
     text(b" ");
     text(name);
-    text(b" ");
-    natural(line);
+    labelled(b" ", line);
     text(b"\n");
 }
 
