@@ -14,14 +14,16 @@ use Rattle.predict.specs.Sampled.{cellsC}
 use Rattle.predict.proofs.SlotLaws.{slots-all, slots-filled, slots-read}
 use Rattle.predict.proofs.InsideLaws.{c-inside}
 
+-- a cell of the frame is below the length of each buffer of a grid that holds its cells
+pub reached : {width height i : ℕ} {g : Grid} → Held width height g → i < cells width height → (i < length (g .rows)) × (i < length (g .cols)) × (i < length (g .sads))
+reached held below = (omega (arith, held .rows), omega (arith, held .cols), omega (arith, held .sads))
+
 -- each cell's number is below the length of each buffer of a grid
 abbrev pub Reaches : List ℕ → ℕ → Grid → Type 0
 Reaches is n g = (k : ℕ) → k < n → (getD is k 0 < length (g .rows)) × (getD is k 0 < length (g .cols)) × (getD is k 0 < length (g .sads))
 
 pub reaches : (width height : ℕ) (g : Grid) (is : List ℕ) → Held width height g → ((k : ℕ) → k < length is → getD is k 0 < cells width height) → Reaches is (length is) g
-reaches width height g is held inside k h =
-    let below = inside k h in
-    (omega (arith, held .rows), omega (arith, held .cols), omega (arith, held .sads))
+reaches width height g is held inside k h = reached held (inside k h)
 
 -- a previous grid is read only where it is present
 pub reaches-c : (width height level bx by : ℕ) → Placed width height (levelOf level) (levelOf level .«mv_size») bx by

@@ -76,7 +76,7 @@ module _ {width height : ℕ} {l : Level} {size bx by : ℕ} (p : Placed width h
   down : by + cellsAlong height size by / 2 < height / cellSide
   down = middle-inside (p .sized) (p .high) (p .down)
 
-  middle-cell : centreCell width height size bx by < cells width height
+  pub middle-cell : centreCell width height size bx by < cells width height
   unfolding centreCell
   middle-cell = cell-inside width height _ _ across down
 

@@ -1,18 +1,18 @@
 -- Laws of the cells that a block samples: what taking one after another gives, and how many there are. Assumes nothing.
-use mathlib.Core.Path.{_≡_, sym, ap, _∙_}
+use mathlib.Core.Path.{_≡_, refl, sym, ap, _∙_}
 use mathlib.Core.Bool.{Bool, true, false}
 use mathlib.Core.List.{List, [], _∷_, _++_, append-nil}
 use Prim.Native.Nat.{ℕ, _+_, _*_, _/_, _≤_, _<_}
 use native.Mathlib.Nat.{add-le-add}
 use native.Mathlib.Omega.{arith}
-use lib.ListN.{length, length-append}
+use lib.ListN.{length, replicate, length-append}
 use Rattle.motion.specs.Limits.{cellSide}
 use Rattle.motion.specs.Level.{levelOf}
 use Rattle.motion.specs.Block.{croppedTo}
 use Rattle.predict.specs.declared.sampled.Cells.{Cells}
-use Rattle.predict.specs.Slots.{slots, cellsOf, taking}
-use Rattle.predict.specs.Sampled.{cellsAlong, taken, neighbours, cellsB, cellsC, cellsCentre}
-use Rattle.predict.proofs.SlotLaws.{slots-all, slots-next}
+use Rattle.predict.specs.Slots.{slots, slotted, cellsOf, taking}
+use Rattle.predict.specs.Sampled.{cellsAlong, taken, neighbours, cellsB, cellsC}
+use Rattle.predict.proofs.SlotLaws.{slots-next}
 
 -- a block in cells ends inside the grid
 pub along-most : (side size b : ℕ) → cellSide * b ≤ side → b + cellsAlong side size b ≤ side / cellSide
@@ -36,17 +36,19 @@ pub record Filled (n : ℕ) (cs : Cells) : Type 0 where
   pub same : cs ≡ cellsOf is
   pub few : length is ≤ n
 
-abbrev pub empty : {cs : Cells} → cs ≡ cellsOf [] → Filled 0 cs
-empty e = record { is = []; same = e; few = omega arith }
+-- none of them
+pub no-cells : _≡_ {A = Cells} (record { count = 0; at = replicate slots 0 }) (cellsOf [])
+unfolding cellsOf slotted
+no-cells = refl
+
+abbrev pub empty : Filled 0 (record { count = 0; at = replicate slots 0 })
+empty = record { is = []; same = no-cells; few = omega arith }
 
 module _ {n : ℕ} {cs : Cells} (f : Filled n cs) (fits : n < slots) where
   -- there is a slot for one more
-  pub room : (cs .count < slots) × (length (cs .at) ≡ slots)
+  pub room : cs .count < slots
   unfolding cellsOf
-  room =
-      let count = ap (λ (c : Cells). c .count) (f .same) in
-      let at = ap (λ (c : Cells). length (c .at)) (f .same) in
-      (omega (arith, count, f .few), at ∙ slots-all 0 (f .is) (omega (arith, f .few)))
+  room = omega (arith, ap (λ (c : Cells). c .count) (f .same), f .few)
 
   abbrev pub took : {r : Cells} (t : Bool) (i : ℕ) → r ≡ taking cs t i → Filled (n + 1) r
   took t i e =
@@ -70,7 +72,3 @@ module _ (width height level bx by : ℕ) where
   unfolding cellsC
   c-few true = simp length-append (omega (arith, neighbours-few width height (levelOf level .«mv_size») bx by true true))
   c-few false = omega arith
-
-  pub centre-few : length (cellsCentre width height level bx by) ≤ 1
-  unfolding cellsCentre
-  centre-few = taken-few _ _

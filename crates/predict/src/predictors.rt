@@ -1,8 +1,9 @@
+use crate::grid::MEStats;
 use crate::grid::stats_at;
 use crate::sampled::Cells;
 use crate::sampled::cells_b;
 use crate::sampled::cells_c;
-use crate::sampled::cells_centre;
+use crate::sampled::centre_cell;
 use motion::block::block_of;
 use motion::level::level_of;
 use motion::range::MvRange;
@@ -11,11 +12,13 @@ ghost use mathlib.Core.Path.{_≡_};
 ghost use mathlib.Core.Bool.{true};
 ghost use Prim.Native.Nat.{ℕ, _≤_, _<_, _^_, min};
 ghost use lib.ListN.{length, take, getD};
+ghost use Rattle.motion.specs.Vector.{zeroV};
 ghost use Rattle.motion.specs.Level.{levelOf};
 ghost use Rattle.motion.specs.Frame.{Placed};
 ghost use Rattle.predict.specs.Grid.{Held, gridOf};
 ghost use Rattle.predict.specs.Slots.{slots};
-ghost use Rattle.predict.specs.Predictors.{clampTo, predictor, minimumSad, stopThreshold, subsetOf, subsetsOf};
+ghost use Rattle.predict.specs.Sampled.{taken};
+ghost use Rattle.predict.specs.Predictors.{clampTo, predictor, predictorsAt, sadsAt, leastOf, minimumSad, stopThreshold, subsetOf, subsetsOf};
 
 // The predictors that some cells give, at most five, and the least SAD among the cells.
 pub struct Subset {
@@ -92,6 +95,33 @@ fn subset_of(
     }
 }
 
+// The centre as a predictor, with its SAD; where it is not asked for, the zero vector and the largest SAD.
+fn centre_of(
+    range: MvRange,
+    ssdec: u32,
+    asked: bool,
+    i: usize,
+    rows: &[i16],
+    cols: &[i16],
+    sads: &[u32],
+) -> MEStats
+    requires { ⌜ (ssdec < 16) × (i < length (now rows)) × (i < length (now cols)) × (i < length (now sads)) ⌝ }
+    ensures { λ r. ⌜ (r .mv ≡ getD (predictorsAt range ssdec (gridOf (now (rows .entry)) (now (cols .entry)) (now (sads .entry))) (taken asked i)) 0 zeroV) × (r .«normalized_sad» ≡ leastOf (sadsAt (gridOf (now (rows .entry)) (now (cols .entry)) (now (sads .entry))) (taken asked i))) ⌝ }
+{
+    if !asked {
+        return MEStats {
+            mv: MotionVector { row: 0, col: 0 },
+            normalized_sad: 0xffff_ffff,
+        };
+    }
+    let stats = stats_at(rows, cols, sads, i);
+    let mv = process_cand(range, ssdec, stats.mv);
+    MEStats {
+        mv,
+        normalized_sad: stats.normalized_sad,
+    }
+}
+
 // The least SAD, for a block of this many samples.
 fn minimum_sad(least: u32, area: u32) -> u32
     requires { ⌜ area ≤ 4096 ⌝ }
@@ -129,23 +159,25 @@ pub fn get_subset_predictors(
 {
     let row = level_of(level);
     let ssdec = row.ssdec;
-    let block = block_of(width, height, row, row.mv_size, bx, by);
+    let mv_size = row.mv_size;
+    let block = block_of(width, height, row, mv_size, bx, by);
     let range = block.range;
-    let b_cells = cells_b(width, height, level, bx, by);
+    let middle = centre_cell(width, height, mv_size, bx, by);
+    let m = centre_of(range, ssdec, level != 4, middle, rows, cols, sads);
+    let b_cells = cells_b(width, height, level, mv_size, bx, by);
+    let c_cells = cells_c(width, height, mv_size, bx, by, present);
     let b = subset_of(range, ssdec, b_cells, rows, cols, sads);
-    let c_cells = cells_c(width, height, level, bx, by, present);
     let c = subset_of(range, ssdec, c_cells, prev_rows, prev_cols, prev_sads);
-    let middle = cells_centre(width, height, level, bx, by);
-    let m = subset_of(range, ssdec, middle, rows, cols, sads);
     let area = (block.w * block.h) as u32;
-    let min_sad = minimum_sad(least_of(b.least, least_of(c.least, m.least)), area);
+    let min_sad = minimum_sad(least_of(b.least, least_of(c.least, m.normalized_sad)), area);
     let threshold = stop_threshold(min_sad, area);
+    let center = m.mv;
     let subset_b = b.mvs;
     let subset_c = c.mvs;
     MotionEstimationSubsets {
         min_sad,
         threshold,
-        center: m.mvs[0],
+        center,
         b_count: b.count + 1,
         c_count: c.count,
         subset_b,

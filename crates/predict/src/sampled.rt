@@ -4,11 +4,12 @@ use motion::level::level_of;
 ghost use mathlib.Core.Path.{_≡_};
 ghost use mathlib.Core.Bool.{_&&_};
 ghost use mathlib.Core.List.{[]};
-ghost use Prim.Native.Nat.{_-_, _*_, _≤_, _<_};
-ghost use lib.ListN.{length};
+ghost use Prim.Native.Nat.{ℕ, _-_, _*_, _≤_, _<_};
 ghost use Rattle.motion.specs.Limits.{largestSide, cellSide};
+ghost use Rattle.motion.specs.Level.{levelOf};
+ghost use Rattle.predict.specs.declared.sampled.Cells.{Cells};
 ghost use Rattle.predict.specs.Slots.{slots, cellsOf, taking};
-ghost use Rattle.predict.specs.Sampled.{cellsAlong, neighbours, centreCell, oddBlock, cellsB, cellsC, cellsCentre};
+ghost use Rattle.predict.specs.Sampled.{cellsAlong, neighbours, centreCell, oddBlock, cellsB, cellsC};
 
 // Cells by their numbers, at most five; slots past the count hold 0.
 pub struct Cells {
@@ -25,23 +26,18 @@ impl Cells {
             at: [0; 5],
         }
     }
+}
 
-    // One more, where it is taken.
-    pub(crate) fn taking(self, taken: bool, i: usize) -> Cells
-        requires { ⌜ (self .count < slots) × (length (self .at) ≡ slots) ⌝ }
-        ensures { λ r. ⌜ r ≡ taking self taken i ⌝ }
-    {
-        if !taken {
-            return self;
-        }
-        let count = self.count;
-        let mut at = self.at;
-        at[count] = i;
-        Cells {
-            count: count + 1,
-            at,
-        }
+// One more in the next slot, where it is taken; hands back how many there are.
+fn take(at: &mut [usize; 5], count: usize, taken: bool, i: usize) -> usize
+    requires { ⌜ count < slots ⌝ }
+    ensures { λ r. ⌜ _≡_ {A = Cells} (record { count = r; at = now (at .exit) }) (taking (record { count = count; at = now (at .entry) }) taken i) ⌝ }
+{
+    if !taken {
+        return count;
     }
+    at[count] = i;
+    count + 1
 }
 
 // The cell before, or 0 at the edge.
@@ -82,14 +78,26 @@ fn neighbours(
     let h = cells_along(height, mv_size, by);
     let x = bx + w / 2;
     let y = by + h / 2;
-    let left = Cells::none().taking(0 < bx, cell_at(width, before(bx), y));
-    let top = left.taking(0 < by, cell_at(width, x, before(by)));
-    let across = top.taking(both(right, bx + w < width / 4), cell_at(width, bx + w, y));
-    across.taking(both(bottom, by + h < height / 4), cell_at(width, x, by + h))
+    let end_x = bx + w;
+    let end_y = by + h;
+    let across = both(right, end_x < width / 4);
+    let down = both(bottom, end_y < height / 4);
+    let mut at = [0; 5];
+    let left = take(&mut at, 0, 0 < bx, cell_at(width, before(bx), y));
+    let top = take(&mut at, left, 0 < by, cell_at(width, x, before(by)));
+    let round = take(&mut at, top, across, cell_at(width, end_x, y));
+    let count = take(&mut at, round, down, cell_at(width, x, end_y));
+    Cells { count, at }
 }
 
 // The cell in a block's middle.
-fn centre_cell(width: usize, height: usize, mv_size: usize, bx: usize, by: usize) -> usize
+pub(crate) fn centre_cell(
+    width: usize,
+    height: usize,
+    mv_size: usize,
+    bx: usize,
+    by: usize,
+) -> usize
     requires { ⌜ (cellSide * bx ≤ width) × (width ≤ largestSide) × (cellSide * by ≤ height) × (height ≤ largestSide) ⌝ }
     ensures { λ r. ⌜ r ≡ centreCell width height «mv_size» bx by ⌝ }
 {
@@ -110,11 +118,18 @@ fn odd_block(level: usize, b: usize) -> bool
 }
 
 // The cells of B.
-pub(crate) fn cells_b(width: usize, height: usize, level: usize, bx: usize, by: usize) -> Cells
+pub(crate) fn cells_b(
+    width: usize,
+    height: usize,
+    level: usize,
+    mv_size: usize,
+    bx: usize,
+    by: usize,
+) -> Cells
     requires { ⌜ (cellSide * bx ≤ width) × (width ≤ largestSide) × (cellSide * by ≤ height) × (height ≤ largestSide) ⌝ }
+    requires { ⌜ «mv_size» ≡ levelOf level .«mv_size» ⌝ }
     ensures { λ r. ⌜ r ≡ cellsOf (cellsB width height level bx by) ⌝ }
 {
-    let mv_size = level_of(level).mv_size;
     let right = odd_block(level, bx);
     let bottom = odd_block(level, by);
     neighbours(width, height, mv_size, bx, by, right, bottom)
@@ -124,28 +139,20 @@ pub(crate) fn cells_b(width: usize, height: usize, level: usize, bx: usize, by: 
 pub(crate) fn cells_c(
     width: usize,
     height: usize,
-    level: usize,
+    mv_size: usize,
     bx: usize,
     by: usize,
     present: bool,
 ) -> Cells
     requires { ⌜ (cellSide * bx ≤ width) × (width ≤ largestSide) × (cellSide * by ≤ height) × (height ≤ largestSide) ⌝ }
-    ensures { λ r. ⌜ r ≡ cellsOf (cellsC width height level bx by present) ⌝ }
+    ensures { λ r. ⌜ ((level : ℕ) → «mv_size» ≡ levelOf level .«mv_size» → r ≡ cellsOf (cellsC width height level bx by present)) ⌝ }
 {
     if !present {
         return Cells::none();
     }
-    let mv_size = level_of(level).mv_size;
     let round = neighbours(width, height, mv_size, bx, by, true, true);
-    round.taking(true, centre_cell(width, height, mv_size, bx, by))
-}
-
-// The current grid's centre, at levels 3 and 2.
-pub(crate) fn cells_centre(width: usize, height: usize, level: usize, bx: usize, by: usize) -> Cells
-    requires { ⌜ (cellSide * bx ≤ width) × (width ≤ largestSide) × (cellSide * by ≤ height) × (height ≤ largestSide) ⌝ }
-    ensures { λ r. ⌜ r ≡ cellsOf (cellsCentre width height level bx by) ⌝ }
-{
-    let mv_size = level_of(level).mv_size;
     let middle = centre_cell(width, height, mv_size, bx, by);
-    Cells::none().taking(level != 4, middle)
+    let mut at = round.at;
+    let count = take(&mut at, round.count, true, middle);
+    Cells { count, at }
 }

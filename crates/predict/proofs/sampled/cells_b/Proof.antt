@@ -5,9 +5,6 @@ use Rattle.predict.specs.Sampled.{cellsB}
 use Rattle.predict.proofs.sampled.cells_b.Statement.{statement}
 use Rattle.predict.proofs.sampled.cells_b.Tie as tie
 
-level-of-requires : tie.Need-level-of-requires
-level-of-requires c κs = search needs
-
 odd-block-requires : tie.Need-odd-block-requires
 odd-block-requires c κs = search needs
 
@@ -23,10 +20,4 @@ returns c = cc
 
 pub cells-b-spec : {M : Type 1} → statement M
 cells-b-spec =
-    tie.close
-    (tie.spec
-    level-of-requires
-    odd-block-requires
-    odd-block-requires-2
-    neighbours-requires
-    returns)
+    tie.close (tie.spec odd-block-requires odd-block-requires-2 neighbours-requires returns)

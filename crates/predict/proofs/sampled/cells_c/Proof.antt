@@ -18,10 +18,7 @@ none-requires c κs = search needs
 
 returns : tie.Need-returns
 unfolding cellsC
-returns c = rw (not-true (c .before .before .args .present) (c .before .if1 .taken)) (c .none .ensures)
-
-level-of-requires : tie.Need-level-of-requires
-level-of-requires c κs = search needs
+returns c level e = rw (not-true (c .before .before .args .present) (c .before .if1 .taken)) (c .none .ensures)
 
 neighbours-requires : tie.Need-neighbours-requires
 neighbours-requires c κs = search needs
@@ -29,14 +26,14 @@ neighbours-requires c κs = search needs
 centre-cell-requires : tie.Need-centre-cell-requires
 centre-cell-requires c κs = search needs
 
-taking-requires : tie.Need-taking-requires
-taking-requires c κs = room (round (c .before)) (omega arith)
+take-requires : tie.Need-take-requires
+take-requires c κs = room (round (c .before .before .before)) (omega arith)
 
 returns-2 : tie.Need-returns-2
 unfolding cellsC taken
-returns-2 c =
-    let all = took (round (c .before .before)) (omega arith) true _ (c .taking .ensures) .same in
-    rw (not-false (c .before .before .before .before .before .args .present) (c .before .before .before .before .if1 .left)) (cc)
+returns-2 c level e =
+    let all = took (round (c .before .before .before .before)) (omega arith) true _ (c .take .ensures) .same in
+    rw (not-false (c .before .before .before .before .before .before .args .present) (c .before .before .before .before .before .if1 .left)) (cc)
 
 pub cells-c-spec : {M : Type 1} → statement M
 cells-c-spec =
@@ -44,8 +41,7 @@ cells-c-spec =
     (tie.spec
     none-requires
     returns
-    level-of-requires
     neighbours-requires
     centre-cell-requires
-    taking-requires
+    take-requires
     returns-2)

@@ -3,11 +3,12 @@
 use borrow.Author.Needs.{needs}
 use mathlib.Core.Path.{_∙_}
 use mathlib.Core.Bool.{_&&_}
-use mathlib.Core.List.{_++_}
-use Prim.Native.Nat.{_+_, _/_, _≤_, _^_}
+use mathlib.Core.List.{List, _++_}
+use Prim.Native.Nat.{ℕ, _+_, _/_, _≤_, _^_}
 use native.Mathlib.Omega.{arith}
 use lib.Dec.{ltb}
 use Rattle.motion.specs.Limits.{cellSide}
+use Rattle.predict.specs.declared.sampled.Cells.{Cells}
 use Rattle.predict.specs.Grid.{cellAt}
 use Rattle.predict.specs.Slots.{cellsOf}
 use Rattle.predict.specs.Sampled.{taken, neighbours}
@@ -26,18 +27,34 @@ down c =
     let a = c .before .before .args in
     omega (arith, c .cells-along2 .ensures, along-most (a .height) (a .mv-size) (a .by) (c .before .before .pre .2))
 
+-- the block's sides, from where each cell is taken
+abbrev sides : tie.After-at → tie.After-cells-along2
+sides c = c .before .before .before
+
+abbrev sides2 : tie.After-at2 → tie.After-cells-along2
+sides2 c = sides (c .before .before .before .before)
+
+abbrev sides3 : tie.After-at3 → tie.After-cells-along2
+sides3 c = sides2 (c .before .before .before .before)
+
+abbrev sides4 : tie.After-at4 → tie.After-cells-along2
+sides4 c = sides3 (c .before .before .before)
+
 -- what is taken up to each cell
-abbrev left : (c : tie.After-taking) → Filled 1 (c .taking .result)
-left c = took (empty (c .before .before .before .none .ensures)) (omega arith) _ _ (c .taking .ensures)
+abbrev list : ℕ → List ℕ → Cells
+list n at = record { count = n; at = at }
 
-abbrev top : (c : tie.After-taking2) → Filled 2 (c .taking2 .result)
-top c = took (left (c .before .before .before)) (omega arith) _ _ (c .taking2 .ensures)
+abbrev left : (c : tie.After-take) → Filled 1 (list (c .take .result) (c .take .last .0))
+left c = took empty (omega arith) _ _ (c .take .ensures)
 
-abbrev right : (c : tie.After-taking3) → Filled 3 (c .taking3 .result)
-right c = took (top (c .before .before .before)) (omega arith) _ _ (c .taking3 .ensures)
+abbrev top : (c : tie.After-take2) → Filled 2 (list (c .take2 .result) (c .take2 .last .0))
+top c = took (left (c .before .before .before .before)) (omega arith) _ _ (c .take2 .ensures)
 
-abbrev all : (c : tie.After-taking4) → Filled 4 (c .taking4 .result)
-all c = took (right (c .before .before .before)) (omega arith) _ _ (c .taking4 .ensures)
+abbrev right : (c : tie.After-take3) → Filled 3 (list (c .take3 .result) (c .take3 .last .0))
+right c = took (top (c .before .before .before)) (omega arith) _ _ (c .take3 .ensures)
+
+abbrev all : (c : tie.After-take4) → Filled 4 (list (c .take4 .result) (c .take4 .last .0))
+all c = took (right (c .before .before .before)) (omega arith) _ _ (c .take4 .ensures)
 
 cells-along-requires : tie.Need-cells-along-requires
 cells-along-requires c κs = search needs
@@ -51,60 +68,47 @@ add-x c = search needs
 add-y : tie.Need-add-y
 add-y c = search needs
 
-none-requires : tie.Need-none-requires
-none-requires c κs = search needs
+add-end-x : tie.Need-add-end-x
+add-end-x c = omega (arith, across (c .before))
+
+add-end-y : tie.Need-add-end-y
+add-end-y c = omega (arith, down c)
+
+both-requires : tie.Need-both-requires
+both-requires c κs = search needs
+
+both-requires-2 : tie.Need-both-requires-2
+both-requires-2 c κs = search needs
 
 before-requires : tie.Need-before-requires
 before-requires c κs = search needs
 
 cell-at-requires : tie.Need-cell-at-requires
-cell-at-requires c κs = omega (arith, down (c .before .before))
+cell-at-requires c κs = omega (arith, down (sides (c .before)))
 
-taking-requires : tie.Need-taking-requires
-taking-requires c κs = room (empty (c .before .before .none .ensures)) (omega arith)
+take-requires : tie.Need-take-requires
+take-requires c κs = search needs
 
 before-requires-2 : tie.Need-before-requires-2
 before-requires-2 c κs = search needs
 
 cell-at-requires-2 : tie.Need-cell-at-requires-2
-cell-at-requires-2 c κs = omega (arith, across (c .before .before .before .before .before .before))
+cell-at-requires-2 c κs = omega (arith, across (sides2 (c .before) .before))
 
-taking-requires-2 : tie.Need-taking-requires-2
-taking-requires-2 c κs = room (left (c .before .before)) (omega arith)
-
-add-both : tie.Need-add-both
-add-both c = omega (arith, across (c .before .before .before .before .before .before .before .before))
-
-both-requires : tie.Need-both-requires
-both-requires c κs = search needs
-
-add-cell-at : tie.Need-add-cell-at
-add-cell-at c = omega (arith, across (c .before .before .before .before .before .before .before .before .before))
+take-requires-2 : tie.Need-take-requires-2
+take-requires-2 c κs = room (left (c .before .before .before)) (omega arith)
 
 cell-at-requires-3 : tie.Need-cell-at-requires-3
-cell-at-requires-3 c κs =
-    let sides = c .before .before .before .before .before .before .before .before in
-    omega (arith, across (sides .before), down sides)
+cell-at-requires-3 c κs = omega (arith, across (sides3 c .before), down (sides3 c))
 
-taking-requires-3 : tie.Need-taking-requires-3
-taking-requires-3 c κs = room (top (c .before .before)) (omega arith)
-
-add-both-2 : tie.Need-add-both-2
-add-both-2 c = omega (arith, down (c .before .before .before .before .before .before .before .before .before .before))
-
-both-requires-2 : tie.Need-both-requires-2
-both-requires-2 c κs = search needs
-
-add-cell-at-2 : tie.Need-add-cell-at-2
-add-cell-at-2 c = omega (arith, down (c .before .before .before .before .before .before .before .before .before .before .before))
+take-requires-3 : tie.Need-take-requires-3
+take-requires-3 c κs = room (top (c .before .before)) (omega arith)
 
 cell-at-requires-4 : tie.Need-cell-at-requires-4
-cell-at-requires-4 c κs =
-    let sides = c .before .before .before .before .before .before .before .before .before .before .before in
-    omega (arith, across (sides .before), down sides)
+cell-at-requires-4 c κs = omega (arith, across (sides4 c .before), down (sides4 c))
 
-taking-requires-4 : tie.Need-taking-requires-4
-taking-requires-4 c κs = room (right (c .before .before)) (omega arith)
+take-requires-4 : tie.Need-take-requires-4
+take-requires-4 c κs = room (right (c .before .before)) (omega arith)
 
 returns : tie.Need-returns
 unfolding neighbours
@@ -112,17 +116,18 @@ returns c =
     let fourth = c .before in
     let third = fourth .before .before .before in
     let second = third .before .before .before in
-    let first = second .before .before .before in
-    let sides = first .before .before .before in
-    let a = sides .before .before .args in
-    let w = sides .before .cells-along .ensures in
-    let h = sides .cells-along2 .ensures in
+    let first = second .before .before .before .before in
+    let ends = first .before .before .before in
+    let s = ends .before .before in
+    let a = s .before .before .args in
+    let w = s .before .cells-along .ensures in
+    let h = s .cells-along2 .ensures in
     let left = first .cell-at .ensures ∙ (λ i. cellAt (a .width) (first .before .before2 .ensures i) (a .by + h i / 2)) in
     let top = second .cell-at2 .ensures ∙ (λ i. cellAt (a .width) (a .bx + w i / 2) (second .before .before3 .ensures i)) in
     let right = third .cell-at3 .ensures ∙ (λ i. cellAt (a .width) (a .bx + w i) (a .by + h i / 2)) in
     let bottom = fourth .cell-at4 .ensures ∙ (λ i. cellAt (a .width) (a .bx + w i / 2) (a .by + h i)) in
-    let across = third .before .both .ensures ∙ (λ i. a .right && ltb (a .bx + w i) (a .width / cellSide)) in
-    let down = fourth .before .both2 .ensures ∙ (λ i. a .bottom && ltb (a .by + h i) (a .height / cellSide)) in
+    let across = ends .before .both .ensures ∙ (λ i. a .right && ltb (a .bx + w i) (a .width / cellSide)) in
+    let down = ends .both2 .ensures ∙ (λ i. a .bottom && ltb (a .by + h i) (a .height / cellSide)) in
     all c .same
     ∙ (λ i. cellsOf (taken (ltb 0 (a .bx)) (left i) ++ taken (ltb 0 (a .by)) (top i) ++ taken (across i) (right i) ++ taken (down i) (bottom i)))
 
@@ -134,21 +139,18 @@ neighbours-spec =
     cells-along-requires-2
     add-x
     add-y
-    none-requires
+    add-end-x
+    add-end-y
+    both-requires
+    both-requires-2
     before-requires
     cell-at-requires
-    taking-requires
+    take-requires
     before-requires-2
     cell-at-requires-2
-    taking-requires-2
-    add-both
-    both-requires
-    add-cell-at
+    take-requires-2
     cell-at-requires-3
-    taking-requires-3
-    add-both-2
-    both-requires-2
-    add-cell-at-2
+    take-requires-3
     cell-at-requires-4
-    taking-requires-4
+    take-requires-4
     returns)
