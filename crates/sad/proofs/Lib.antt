@@ -1,6 +1,6 @@
 -- Laws that several proofs and other crates cite.
 pub mod Sums
-pub mod Splits
+pub mod Turns
 pub mod Places
 pub mod Contained
 pub mod CostLaws

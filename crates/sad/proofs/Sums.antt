@@ -2,11 +2,11 @@
 use mathlib.Core.Path.{_≡_, refl, sym, ap}
 use mathlib.Core.List.{List}
 use Prim.Native.Nat.{ℕ, zero, suc, _+_, _-_, _*_, _≤_, _<_, zero-le}
-use native.Mathlib.Nat.{le-suc, le-refl, mul-suc, add-le-add, mul-le-mul-left, le-trans, le-of-eq}
+use native.Mathlib.Nat.{le-suc, le-refl, mul-suc, add-le-add, le-trans, le-of-eq}
 use native.Mathlib.Numerals.{add-one}
 use native.Mathlib.Omega.{arith}
 use lib.ListN.{getD}
-use Rattle.sad.specs.Sad.{sumTo, absDiff, sadRow, sadBlock, largestBlock}
+use Rattle.sad.specs.Sad.{sumTo, absDiff, sadRow, sadBlock}
 
 sum-more : (i : ℕ) (f : ℕ → ℕ) → sumTo (i + 1) f ≡ sumTo i f + f i
 unfolding sumTo
@@ -38,10 +38,6 @@ module _ (cur : List ℕ) (src : ℕ) (ref : List ℕ) (dst : ℕ) where
   unfolding sadBlock sumTo
   block-none stride w = refl
 
-  pub block-narrow : (stride h : ℕ) → sadBlock cur src ref dst stride 0 h ≡ 0
-  unfolding sadBlock sadRow sumTo
-  block-narrow stride h = omega (arith, sum-le h 0 (λ y. sadRow cur (src + y * stride) ref (dst + y * stride) 0) (λ y p. zero-le))
-
   pub block-more : (stride w y : ℕ) → sadBlock cur src ref dst stride w (y + 1) ≡ sadBlock cur src ref dst stride w y + sadRow cur (src + y * stride) ref (dst + y * stride) w
   unfolding sadBlock
   block-more stride w y = sum-more y (λ i. sadRow cur (src + i * stride) ref (dst + i * stride) w)
@@ -62,6 +58,3 @@ module _ (m : ℕ) (cur ref : List ℕ) (hc : Under m cur) (hr : Under m ref) wh
   block-le src dst stride w h =
       sum-le h (m * w) (λ y. sadRow cur (src + y * stride) ref (dst + y * stride) w)
       (λ y p. row-le (src + y * stride) (dst + y * stride) w)
-
-  pub block-most : (src dst stride w h : ℕ) → h ≤ largestBlock → sadBlock cur src ref dst stride w h ≤ m * w * largestBlock
-  block-most src dst stride w h high = le-trans (block-le src dst stride w h) (mul-le-mul-left (m * w) high)

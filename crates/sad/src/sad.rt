@@ -1,5 +1,5 @@
 ghost use mathlib.Core.Path.{_≡_};
-ghost use Prim.Native.Nat.{_+_, _*_, _%_, _≤_, _<_};
+ghost use Prim.Native.Nat.{_+_, _*_, _≤_, _<_};
 ghost use lib.ListN.{length};
 ghost use Rattle.sad.specs.Sad.{absDiff, sadRow, sadBlock, Inside, largestBlock};
 
@@ -67,8 +67,18 @@ fn sad_four_rows(plane_org: &[u8], src: usize, plane_ref: &[u8], dst: usize, str
     r0 + r1 + r2 + r3
 }
 
-// A strip of 16 columns, `fours` times four rows.
-fn sad_strip(
+// Two rows of 32, likewise.
+fn sad_two_rows(plane_org: &[u8], src: usize, plane_ref: &[u8], dst: usize, stride: usize) -> u32
+    requires { ⌜ Inside (length (now «plane_org»)) src stride 32 2 × Inside (length (now «plane_ref»)) dst stride 32 2 ⌝ }
+    ensures { λ r. ⌜ r ≡ sadBlock (now («plane_org» .entry)) src (now («plane_ref» .entry)) dst stride 32 2 ⌝ }
+{
+    let r0 = sad_row(plane_org, src, plane_ref, dst, 32);
+    let r1 = sad_row(plane_org, src + stride, plane_ref, dst + stride, 32);
+    r0 + r1
+}
+
+// 16 columns, `fours` times four rows.
+fn sad_16(
     plane_org: &[u8],
     src: usize,
     plane_ref: &[u8],
@@ -90,34 +100,30 @@ fn sad_strip(
     sum
 }
 
-// Strips side by side, w columns in all.
-fn sad_strips(
+// 32 columns, `twos` times two rows.
+fn sad_32(
     plane_org: &[u8],
     src: usize,
     plane_ref: &[u8],
     dst: usize,
     stride: usize,
-    w: usize,
-    fours: usize,
+    twos: usize,
 ) -> u32
-    requires { ⌜ Inside (length (now «plane_org»)) src stride w (4 * fours) × Inside (length (now «plane_ref»)) dst stride w (4 * fours) ⌝ }
-    requires { ⌜ (w % 16 ≡ 0) × (w ≤ largestBlock) × (4 * fours ≤ largestBlock) ⌝ }
-    ensures { λ r. ⌜ r ≡ sadBlock (now («plane_org» .entry)) src (now («plane_ref» .entry)) dst stride w (4 * fours) ⌝ }
+    requires { ⌜ Inside (length (now «plane_org»)) src stride 32 (2 * twos) × Inside (length (now «plane_ref»)) dst stride 32 (2 * twos) ⌝ }
+    requires { ⌜ 2 * twos ≤ largestBlock ⌝ }
+    ensures { λ r. ⌜ r ≡ sadBlock (now («plane_org» .entry)) src (now («plane_ref» .entry)) dst stride 32 (2 * twos) ⌝ }
 {
-    // With no row, nothing bounds where a strip starts.
-    if fours == 0 {
-        return 0;
-    }
     let mut sum: u32 = 0;
-    let mut x = 0;
-    while x < w {
-        sum += sad_strip(plane_org, src + x, plane_ref, dst + x, stride, fours);
-        x += 16;
+    let mut k = 0;
+    while k < twos {
+        let down = 2 * k * stride;
+        sum += sad_two_rows(plane_org, src + down, plane_ref, dst + down, stride);
+        k += 1;
     }
     sum
 }
 
-// The sum of absolute differences of two blocks of w by h samples. Blocks that are not cropped are strips.
+// The sum of absolute differences of two blocks of w by h samples. A block that is not cropped is 16 wide, a refined one 32.
 pub fn get_sad(
     plane_org: &[u8],
     src: usize,
@@ -131,11 +137,13 @@ pub fn get_sad(
     requires { ⌜ (w ≤ largestBlock) × (h ≤ largestBlock) ⌝ }
     ensures { λ r. ⌜ r ≡ sadBlock (now («plane_org» .entry)) src (now («plane_ref» .entry)) dst stride w h ⌝ }
 {
-    if w % 16 != 0 {
-        return sad_rows(plane_org, src, plane_ref, dst, stride, w, h);
+    if h % 4 == 0 {
+        if w == 16 {
+            return sad_16(plane_org, src, plane_ref, dst, stride, h / 4);
+        }
+        if w == 32 {
+            return sad_32(plane_org, src, plane_ref, dst, stride, h / 2);
+        }
     }
-    if h % 4 != 0 {
-        return sad_rows(plane_org, src, plane_ref, dst, stride, w, h);
-    }
-    sad_strips(plane_org, src, plane_ref, dst, stride, w, h / 4)
+    sad_rows(plane_org, src, plane_ref, dst, stride, w, h)
 }

@@ -25,8 +25,7 @@ process-cand-requires c κs = search needs
 returns-2 : tie.Need-returns-2
 unfolding taken predictorsAt sadsAt leastOf
 returns-2 c =
-    let start = c .before .before .before .before in
-    let a = start .args in
+    let a = c .before .before .before .before .args in
     let g = gridOf (now (a .rows)) (now (a .cols)) (now (a .sads)) in
     let stats : c .before .stats-at .result ≡ statsAt g (a .i) = c .before .stats-at .ensures in
     rw (not-false (a .asked) (c .before .before .if1 .left))

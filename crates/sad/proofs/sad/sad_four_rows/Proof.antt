@@ -6,7 +6,7 @@ use native.Mathlib.Omega.{arith}
 use denote.Ref.{now}
 use lib.ListN.{length}
 use Rattle.sad.specs.Sad.{sadRow}
-use Rattle.sad.proofs.Splits.{four-rows}
+use Rattle.sad.proofs.Turns.{four-rows}
 use Rattle.sad.proofs.Sums.{Under, row-le}
 use Rattle.sad.proofs.sad.sad_four_rows.Statement.{statement}
 use Rattle.sad.proofs.sad.sad_four_rows.Tie as tie

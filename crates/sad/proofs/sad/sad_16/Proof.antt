@@ -1,15 +1,15 @@
--- `sad::sad::sad_strip` meets its contract: after k turns the sum is that of 4k rows, at most 255 for each sample.
+-- `sad::sad::sad_16` meets its contract: after k turns the sum is that of 4k rows, at most 255 for each sample.
 -- Assumes nothing.
-use mathlib.Core.Path.{_≡_, ap, subst, _∙_}
-use Prim.Native.Nat.{ℕ, _≤_, _+_, _*_, _-_}
+use mathlib.Core.Path.{_≡_}
+use Prim.Native.Nat.{_≤_, _+_, _*_, _-_}
 use native.Mathlib.Omega.{arith}
 use denote.Ref.{now}
 use lib.ListN.{length}
 use Rattle.sad.specs.Sad.{sadBlock, Inside}
-use Rattle.sad.proofs.Splits.{inside-below, block-then}
+use Rattle.sad.proofs.Turns.{turn-inside, turn-more}
 use Rattle.sad.proofs.Sums.{Under, block-none, block-le}
-use Rattle.sad.proofs.sad.sad_strip.Statement.{statement}
-use Rattle.sad.proofs.sad.sad_strip.Tie as tie
+use Rattle.sad.proofs.sad.sad_16.Statement.{statement}
+use Rattle.sad.proofs.sad.sad_16.Tie as tie
 
 abbrev Inv-loop : tie.InvT-loop
 Inv-loop plane-org src plane-ref dst stride fours sum₀ k₀ sum k =
@@ -24,20 +24,16 @@ loop-holds c =
     (omega arith, omega arith, omega (arith, block-none (a .plane-org .now) (a .src) (a .plane-ref .now) (a .dst) (a .stride) 16))
 
 -- the four rows that a turn takes lie inside both slices
-module _ (n s stride k fours : ℕ) (more : k + 1 ≤ fours) (lies : Inside n s stride 16 (4 * fours)) where
-  rows-inside : Inside n (s + 4 * k * stride) stride 16 4
-  rows-inside y p = inside-below n s stride 16 (4 * k) 4 (λ y' q. lies y' (omega arith)) y p
-
 module _ (c : tie.In-loop Inv-loop μ-loop) where
   org-rows : Inside (length (now (c .before .before .before .before .args .plane-org))) (c .before .before .before .before .args .src + 4 * c .before .loop .k * c .before .before .before .before .args .stride) (c .before .before .before .before .args .stride) 16 4
   org-rows =
       let a = c .before .before .before .before .args in
-      rows-inside (length (now (a .plane-org))) (a .src) (a .stride) (c .before .loop .k) (a .fours) (omega arith) (c .before .before .before .before .pre .0 .0)
+      turn-inside (length (now (a .plane-org))) (a .src) (a .stride) 16 4 (c .before .loop .k) (a .fours) (omega arith) (c .before .before .before .before .pre .0 .0)
 
   ref-rows : Inside (length (now (c .before .before .before .before .args .plane-ref))) (c .before .before .before .before .args .dst + 4 * c .before .loop .k * c .before .before .before .before .args .stride) (c .before .before .before .before .args .stride) 16 4
   ref-rows =
       let a = c .before .before .before .before .args in
-      rows-inside (length (now (a .plane-ref))) (a .dst) (a .stride) (c .before .loop .k) (a .fours) (omega arith) (c .before .before .before .before .pre .0 .1)
+      turn-inside (length (now (a .plane-ref))) (a .dst) (a .stride) 16 4 (c .before .loop .k) (a .fours) (omega arith) (c .before .before .before .before .pre .0 .1)
 
 mul-down : tie.Need-mul-down Inv-loop μ-loop
 mul-down c = omega arith
@@ -78,19 +74,16 @@ loop-less c = omega arith
 loop-again : tie.Need-loop-again Inv-loop μ-loop
 loop-again c =
     let a = c .before .before .before .before .before .args in
-    let k = c .before .before .loop .k in
-    let next : 4 * (k + 1) ≡ 4 * k + 4 = omega arith in
-    let longer = ap (λ (h : ℕ). sadBlock (a .plane-org .now) (a .src) (a .plane-ref .now) (a .dst) (a .stride) 16 h) next in
-    let more = block-then (a .plane-org .now) (a .src) (a .plane-ref .now) (a .dst) (a .stride) 16 (4 * k) 4 in
-    (omega arith, omega (arith, rows-bound c), omega (arith, longer, more, c .before .before .loop .inv .2, c .sad-four-rows .ensures))
+    let more = turn-more (a .plane-org .now) (a .src) (a .plane-ref .now) (a .dst) (a .stride) 16 4 (c .before .before .loop .k) in
+    (omega arith, omega (arith, rows-bound c), omega (arith, more, c .before .before .loop .inv .2, c .sad-four-rows .ensures))
 
 returns : tie.Need-returns Inv-loop μ-loop
 returns c =
     let done : c .before .loop .k ≡ c .before .before .before .before .args .fours = omega arith in
     rw (← done) (c .before .loop .inv .2)
 
-pub sad-strip-spec : {M : Type 1} → statement M
-sad-strip-spec =
+pub sad-16-spec : {M : Type 1} → statement M
+sad-16-spec =
     tie.close
     (tie.spec
     Inv-loop
