@@ -1,6 +1,5 @@
 -- `sad::sad::sad_four_rows` meets its contract: four rows of 16 bytes sum to at most 255 a sample.
 -- Assumes nothing.
-use mathlib.Core.Path.{_≡_}
 use Prim.Native.Nat.{ℕ, _+_, _*_, _≤_, _<_, _^_}
 use native.Mathlib.Omega.{arith}
 use denote.Ref.{now}

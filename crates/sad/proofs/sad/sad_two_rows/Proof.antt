@@ -1,6 +1,6 @@
 -- `sad::sad::sad_two_rows` meets its contract: two rows of 32 bytes sum to at most 255 a sample.
 -- Assumes nothing.
-use Prim.Native.Nat.{ℕ, _+_, _*_, _≤_, _<_, _^_}
+use Prim.Native.Nat.{_+_}
 use native.Mathlib.Omega.{arith}
 use denote.Ref.{now}
 use Rattle.sad.proofs.Turns.{two-rows}
