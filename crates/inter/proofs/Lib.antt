@@ -1,4 +1,5 @@
 -- Laws that several proofs cite.
-pub mod RefusalLaws
+pub mod OpenedLaws
+pub mod AnswerLaws
 pub mod ReadyLaws
 pub mod OutcomeLaws

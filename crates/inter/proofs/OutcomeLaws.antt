@@ -13,12 +13,12 @@ use Rattle.order.specs.List.{listRefusal}
 use Rattle.estimate.specs.Inputs.{inputsOf}
 use Rattle.frame.specs.Step.{windowsOk, step}
 use Rattle.frame.specs.Run.{Planes, frameRun}
-use Rattle.inter.specs.Refusal.{refuse, _then_}
+use Rattle.refusal.specs.Tests.{refuse, _then_}
+use Rattle.refusal.proofs.RefusalLaws.{first-is, then-later}
 use Rattle.inter.specs.Grids.{previous}
 use Rattle.inter.specs.Predicting.{refusedPredictors, predictorsWith}
 use Rattle.inter.specs.Steps.{stepTests, stepRefusal, stepGrid}
 use Rattle.inter.specs.Runs.{runTests, runRefusal, runGrid}
-use Rattle.inter.proofs.RefusalLaws.{first-is, then-later}
 
 module _ (width height level n : ℕ) (cur ref : List ℕ) (present : ℕ) (prev g : Grid) where
   -- a code, and the grid left with it, as a step has them

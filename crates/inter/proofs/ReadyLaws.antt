@@ -17,11 +17,11 @@ use Rattle.order.specs.List.{mostSuperblocks, listRefusal}
 use Rattle.order.proofs.Accepted.{accepted}
 use Rattle.estimate.specs.Inputs.{Leveled, PlaneHeld, Ready, HeldIf, inputsOf, four, three, two}
 use Rattle.frame.specs.Run.{Planes, planeAt}
-use Rattle.inter.specs.Refusal.{refuse, _then_, sideOk, levelOk, planesRefusal}
-use Rattle.inter.specs.Grids.{gridHolds, gridsHold, previous}
+use Rattle.refusal.specs.Tests.{refuse, _then_, sideOk, levelOk, planesRefusal, gridHolds}
+use Rattle.refusal.proofs.RefusalLaws.{first-passed, passes, none-of, side-of, lent, held}
+use Rattle.inter.specs.Grids.{gridsHold, previous}
 use Rattle.inter.specs.Steps.{stepTests}
 use Rattle.inter.specs.Runs.{lentRefusal, runTests}
-use Rattle.inter.proofs.RefusalLaws.{first-passed, passes, none-of, side-of, lent, held}
 
 -- the levels of number 2, where nothing is refined
 leveled-of : (level : ℕ) → levelOk level 0 ≡ true → Leveled level

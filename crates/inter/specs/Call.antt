@@ -3,7 +3,7 @@ use Prim.Native.Nat.{ℕ}
 use Rattle.motion.specs.declared.block.Block.{Block}
 use Rattle.motion.specs.Level.{levelOf}
 use Rattle.motion.specs.Block.{blockOf}
-use Rattle.inter.specs.Refusal.{sizeOf}
+use Rattle.refusal.specs.Tests.{sizeOf}
 
 -- the block that a call names by level, refined or not, and cell
 unfoldable pub blockAt : ℕ → ℕ → ℕ → ℕ → ℕ → ℕ → Block

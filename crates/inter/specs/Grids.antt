@@ -1,15 +1,10 @@
--- The test of number 5 for calls with a grid and a previous one.
+-- The test of number 5 for calls with a grid and a previous one, and the previous one that such a call means.
 use Prim.Native.Nat.{ℕ}
 use mathlib.Core.Bool.{Bool, not, _&&_, _||_}
 use lib.Dec.{eqb}
-use lib.ListN.{length}
 use Rattle.predict.specs.Grid.{Grid}
 use Rattle.estimate.specs.Inputs.{Previous, previousOf}
-use Rattle.inter.specs.Refusal.{gridOk}
-
--- none of a grid's three buffers is too short
-unfoldable pub gridHolds : ℕ → ℕ → Grid → Bool
-gridHolds width height g = gridOk width height (length (g .rows)) (length (g .cols)) (length (g .sads))
+use Rattle.refusal.specs.Tests.{gridHolds}
 
 -- 5: the grid the call uses, or a previous grid said to be present, is too short; `present` is 0 for an absent one
 unfoldable pub gridsHold : ℕ → ℕ → ℕ → Grid → Grid → Bool

@@ -8,11 +8,11 @@ use lib.ListN.{length}
 use Rattle.motion.specs.declared.vector.MotionVector.{MotionVector}
 use Rattle.motion.specs.declared.range.MvRange.{MvRange}
 use Rattle.sad.specs.Cost.{rdAt}
+use Rattle.refusal.specs.Tests.{blockRefusal, callRefusal}
 use Rattle.inter.specs.declared.found.Found.{Found}
 use Rattle.inter.specs.declared.leaves.Range.{Range}
 use Rattle.inter.specs.Found.{foundOf, answer}
 use Rattle.inter.specs.Call.{blockAt}
-use Rattle.inter.specs.Refusal.{blockRefusal, callRefusal}
 
 -- a range with its number; 0 in each field where refused
 unfoldable pub rangeWith : ℕ → MvRange → Range

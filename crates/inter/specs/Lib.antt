@@ -1,5 +1,4 @@
 -- What a reader must believe of the entry points: their refusals and their answers.
-pub mod Refusal
 pub mod Found
 pub mod Call
 pub mod Leaves

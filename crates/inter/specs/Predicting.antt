@@ -8,8 +8,8 @@ use Rattle.predict.specs.declared.predictors.MotionEstimationSubsets.{MotionEst
 use Rattle.predict.specs.Grid.{Grid}
 use Rattle.predict.specs.Slots.{slotted}
 use Rattle.predict.specs.Predictors.{subsetsOf}
+use Rattle.refusal.specs.Tests.{refuse, _then_, blockRefusal}
 use Rattle.inter.specs.declared.predicting.Predictors.{Predictors}
-use Rattle.inter.specs.Refusal.{refuse, _then_, blockRefusal}
 use Rattle.inter.specs.Grids.{gridsHold, previous}
 
 -- numbers 1 to 3, then 5

@@ -9,9 +9,9 @@ use Rattle.motion.specs.Level.{levelOf}
 use Rattle.sad.specs.Cost.{rdAt}
 use Rattle.search.specs.Full.{refineWindow, windowOk, refine}
 use Rattle.predict.specs.Grid.{cellAt, storedAt}
+use Rattle.refusal.specs.Tests.{refuse, _then_, callRefusal, gridOk}
 use Rattle.inter.specs.declared.found.Found.{Found}
 use Rattle.inter.specs.Found.{foundOf, answer}
-use Rattle.inter.specs.Refusal.{refuse, _then_, callRefusal, gridOk}
 use Rattle.inter.specs.Call.{blockAt}
 
 -- 8: an empty window; else vector, SAD and cost at shift s

@@ -8,7 +8,7 @@ use Rattle.motion.specs.Superblock.{superblocksAlong}
 use Rattle.predict.specs.Grid.{Grid}
 use Rattle.frame.specs.Run.{Planes, planeAt, frameRun}
 use Rattle.order.specs.List.{listRefusal}
-use Rattle.inter.specs.Refusal.{refuse, _then_, sideOk, planesRefusal}
+use Rattle.refusal.specs.Tests.{refuse, _then_, sideOk, planesRefusal}
 use Rattle.inter.specs.Grids.{gridsHold, previous}
 
 -- 4: the two planes of a level

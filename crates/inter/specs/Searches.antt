@@ -10,11 +10,11 @@ use Rattle.search.specs.Result.{CostOf}
 use Rattle.search.specs.Diamond.{diamond}
 use Rattle.search.specs.Hexagon.{hexagon}
 use Rattle.search.specs.MultiHexagon.{multiHexagon}
+use Rattle.refusal.specs.Tests.{refuse, _then_, callRefusal}
 use Rattle.inter.specs.declared.found.Found.{Found}
 use Rattle.inter.specs.declared.searches.Method.{Method}
 use Rattle.inter.specs.declared.searches.Method.the-variants.{Diamond, Hexagon, MultiHexagon}
 use Rattle.inter.specs.Found.{foundOf, answer}
-use Rattle.inter.specs.Refusal.{refuse, _then_, callRefusal}
 use Rattle.inter.specs.Call.{blockAt}
 
 unfoldable pub searchBy : Method → CostOf → MotionSearchResult → MotionSearchResult

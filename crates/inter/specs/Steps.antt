@@ -8,7 +8,7 @@ use Rattle.motion.specs.Superblock.{superblocks}
 use Rattle.predict.specs.Grid.{Grid}
 use Rattle.estimate.specs.Inputs.{inputsOf}
 use Rattle.frame.specs.Step.{windowsOk, step}
-use Rattle.inter.specs.Refusal.{refuse, _then_, sideOk, levelOk, planesRefusal}
+use Rattle.refusal.specs.Tests.{refuse, _then_, sideOk, levelOk, planesRefusal}
 use Rattle.inter.specs.Grids.{gridsHold, previous}
 
 -- numbers 1 to 5 of a step that uses these two planes; 3: the superblock number is not in the frame

@@ -1,9 +1,9 @@
-use crate::refusal::size_of;
 use motion::block::Block;
 use motion::block::block_of;
 use motion::level::level_of;
+use refusal::tests::size_of;
 ghost use mathlib.Core.Path.{_≡_};
-ghost use Rattle.inter.specs.Refusal.{blockRefusal};
+ghost use Rattle.refusal.specs.Tests.{blockRefusal};
 ghost use Rattle.inter.specs.Call.{blockAt};
 
 // The block of a call that numbers 1 to 3 do not refuse.

@@ -1,4 +1,4 @@
-use crate::refusal::grid_ok;
+use refusal::tests::grid_ok;
 ghost use mathlib.Core.Path.{_≡_};
 ghost use Prim.Native.Nat.{_≤_};
 ghost use Rattle.motion.specs.Limits.{largestSide};

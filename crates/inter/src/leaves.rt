@@ -1,9 +1,9 @@
 use crate::call::block_at;
 use crate::found::Found;
-use crate::refusal::block_refusal;
-use crate::refusal::call_refusal;
 use motion::rate::get_mv_rate;
 use motion::vector::MotionVector;
+use refusal::tests::block_refusal;
+use refusal::tests::call_refusal;
 use sad::rd::get_fullpel_mv_rd;
 ghost use mathlib.Core.Path.{_≡_};
 ghost use Rattle.motion.specs.Rate.{rateV};

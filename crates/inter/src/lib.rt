@@ -5,7 +5,6 @@ pub mod grids;
 pub mod leaves;
 pub mod predicting;
 pub mod refinement;
-pub mod refusal;
 pub mod runs;
 pub mod searches;
 pub mod steps;

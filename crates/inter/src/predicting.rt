@@ -1,7 +1,7 @@
 use crate::grids::grids_hold;
-use crate::refusal::block_refusal;
 use motion::vector::MotionVector;
 use predict::predictors::get_subset_predictors;
+use refusal::tests::block_refusal;
 ghost use mathlib.Core.Path.{_≡_};
 ghost use Rattle.predict.specs.Grid.{gridOf};
 ghost use Rattle.inter.specs.Predicting.{refusedPredictors, predictorsAnswer};

@@ -1,12 +1,12 @@
 use crate::call::block_at;
 use crate::found::Found;
-use crate::refusal::call_refusal;
-use crate::refusal::grid_ok;
 use motion::block::Block;
 use motion::level::level_of;
 use motion::vector::MotionVector;
 use predict::grid::cell_at;
 use predict::grid::stored_at;
+use refusal::tests::call_refusal;
+use refusal::tests::grid_ok;
 use search::full::full_search;
 use search::full::refine_window;
 ghost use mathlib.Core.Path.{_≡_};

@@ -1,9 +1,9 @@
 use crate::grids::grids_hold;
-use crate::refusal::planes_refusal;
-use crate::refusal::side_ok;
 use frame::run::frame_run;
 use motion::superblock::superblocks_along;
 use order::list::list_refusal;
+use refusal::tests::planes_refusal;
+use refusal::tests::side_ok;
 ghost use mathlib.Core.Path.{_≡_};
 ghost use Rattle.predict.specs.Grid.{gridOf};
 ghost use Rattle.frame.specs.Run.{planesOf};

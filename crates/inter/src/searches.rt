@@ -1,8 +1,8 @@
 use crate::call::block_at;
 use crate::found::Found;
-use crate::refusal::call_refusal;
 use motion::block::Block;
 use motion::vector::MotionVector;
+use refusal::tests::call_refusal;
 use sad::rd::get_fullpel_mv_rd;
 use search::diamond::fullpel_diamond_search;
 use search::hexagon::hexagon_search;

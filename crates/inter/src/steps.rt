@@ -1,9 +1,9 @@
 use crate::grids::grids_hold;
-use crate::refusal::level_ok;
-use crate::refusal::planes_refusal;
-use crate::refusal::side_ok;
 use frame::step::superblock_step;
 use motion::superblock::superblocks_of;
+use refusal::tests::level_ok;
+use refusal::tests::planes_refusal;
+use refusal::tests::side_ok;
 ghost use mathlib.Core.Path.{_≡_};
 ghost use Rattle.predict.specs.Grid.{gridOf};
 ghost use Rattle.frame.specs.Run.{planesOf, planeAt};

@@ -11,11 +11,11 @@ use Rattle.estimate.specs.Inputs.{four, three}
 use Rattle.frame.specs.Step.{windowsOk}
 use Rattle.frame.specs.Run.{inputsAt}
 use Rattle.order.specs.List.{listRefusal}
-use Rattle.inter.specs.Refusal.{refuse, _then_}
+use Rattle.refusal.specs.Tests.{refuse, _then_}
+use Rattle.refusal.proofs.RefusalLaws.{none-of}
 use Rattle.inter.specs.Grids.{previous}
 use Rattle.inter.specs.Steps.{stepTests, stepRefusal}
 use Rattle.inter.specs.Runs.{runTests, runRefusal}
-use Rattle.inter.proofs.RefusalLaws.{none-of}
 use Rattle.inter.proofs.ReadyLaws.{run-ready}
 use Rattle.theorems.specs.Order.{NeverEight}
 use Rattle.theorems.proofs.EstimateStored.{Bytes}

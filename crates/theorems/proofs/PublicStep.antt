@@ -17,11 +17,11 @@ use Rattle.frame.specs.Run.{Planes, planeAt, inputsAt, levelRun, frameRun}
 use Rattle.frame.proofs.StepLaws.{AsLong, long-more, step-long}
 use Rattle.frame.proofs.RunLaws.{run-long}
 use Rattle.order.specs.List.{listRefusal}
-use Rattle.inter.specs.Refusal.{refuse, _then_, sideOk, levelOk, planesRefusal, gridOk}
-use Rattle.inter.specs.Grids.{gridHolds, gridsHold, previous}
+use Rattle.refusal.specs.Tests.{refuse, _then_, sideOk, levelOk, planesRefusal, gridOk, gridHolds}
+use Rattle.refusal.proofs.RefusalLaws.{first-passed, passes, none-of}
+use Rattle.inter.specs.Grids.{gridsHold, previous}
 use Rattle.inter.specs.Steps.{stepTests, stepRefusal, stepGrid}
 use Rattle.inter.specs.Runs.{lentRefusal, runTests, runRefusal, runGrid}
-use Rattle.inter.proofs.RefusalLaws.{first-passed, passes, none-of}
 use Rattle.inter.proofs.ReadyLaws.{list-inside}
 use Rattle.inter.proofs.OutcomeLaws.{step-done}
 use Rattle.theorems.specs.Order.{Windowed, stepCalls, AllZero, PublicStep}

@@ -6,8 +6,8 @@ use Prim.Native.Nat.{ℕ}
 use native.Mathlib.Omega.{arith}
 use Rattle.motion.specs.declared.level.Level.{Level}
 use Rattle.motion.specs.Block.{blockOf}
+use Rattle.refusal.proofs.RefusalLaws.{accepted, size-bounds, row-bounds}
 use Rattle.inter.specs.Call.{blockAt}
-use Rattle.inter.proofs.RefusalLaws.{accepted, size-bounds, row-bounds}
 use Rattle.inter.proofs.call.block_at.Statement.{statement}
 use Rattle.inter.proofs.call.block_at.Tie as tie
 

@@ -3,7 +3,8 @@
 use borrow.Author.Needs.{needs}
 use borrow.Author.Tests.{eq-eqb, ne-eqb}
 use Rattle.motion.proofs.TestLaws.{passed, failed}
-use Rattle.inter.specs.Grids.{gridHolds, gridsHold}
+use Rattle.refusal.specs.Tests.{gridHolds}
+use Rattle.inter.specs.Grids.{gridsHold}
 use Rattle.inter.proofs.grids.grids_hold.Statement.{statement}
 use Rattle.inter.proofs.grids.grids_hold.Tie as tie
 

@@ -14,7 +14,8 @@ use Rattle.sad.specs.Cost.{rdAt}
 use Rattle.inter.specs.Found.{refused, foundOf}
 use Rattle.inter.specs.Call.{blockAt}
 use Rattle.inter.specs.Leaves.{candidateAnswer}
-use Rattle.inter.proofs.RefusalLaws.{Opened, opened, refuses, answers}
+use Rattle.inter.proofs.OpenedLaws.{Opened, opened}
+use Rattle.inter.proofs.AnswerLaws.{refuses, answers}
 use Rattle.inter.proofs.leaves.lockdapple_candidate.Statement.{statement}
 use Rattle.inter.proofs.leaves.lockdapple_candidate.Tie as tie
 

@@ -7,10 +7,10 @@ use Rattle.motion.specs.Level.{levelOf}
 use Rattle.motion.specs.Frame.{Placed}
 use Rattle.motion.proofs.TestLaws.{passed, failed}
 use Rattle.predict.proofs.SubsetLaws.{Sound, subsets-sound}
-use Rattle.inter.specs.Refusal.{refuse, _then_, sizeOf, blockRefusal}
+use Rattle.refusal.specs.Tests.{refuse, _then_, sizeOf, blockRefusal}
+use Rattle.refusal.proofs.RefusalLaws.{refuse-is, first-is, then-later, accepted}
 use Rattle.inter.specs.Grids.{previous}
 use Rattle.inter.specs.Predicting.{predictorsRefusal, predictorsWith, predictorsAnswer}
-use Rattle.inter.proofs.RefusalLaws.{refuse-is, first-is, then-later, accepted}
 use Rattle.inter.proofs.ReadyLaws.{grids-held}
 use Rattle.inter.proofs.OutcomeLaws.{predictors-refused}
 use Rattle.inter.proofs.predicting.lockdapple_predictors.Statement.{statement}

@@ -12,10 +12,12 @@ use Rattle.motion.proofs.TestLaws.{passed, failed}
 use Rattle.sad.specs.Plane.{Lies}
 use Rattle.predict.specs.Grid.{gridOf, cells, cellAt, storedAt}
 use Rattle.predict.proofs.InsideLaws.{cell-inside}
+use Rattle.refusal.specs.Tests.{gridHolds}
+use Rattle.refusal.proofs.RefusalLaws.{held, row-bounds}
 use Rattle.inter.specs.Found.{refused}
 use Rattle.inter.specs.Refinement.{windowAnswer, refineAnswer}
-use Rattle.inter.specs.Grids.{gridHolds}
-use Rattle.inter.proofs.RefusalLaws.{Opened, opened, held, row-bounds, refuses-first, refuses-later, refuses-at, finds}
+use Rattle.inter.proofs.OpenedLaws.{Opened, opened}
+use Rattle.inter.proofs.AnswerLaws.{refuses-first, refuses-later, refuses-at, finds}
 use Rattle.inter.proofs.refinement.lockdapple_refine.Statement.{statement}
 use Rattle.inter.proofs.refinement.lockdapple_refine.Tie as tie
 

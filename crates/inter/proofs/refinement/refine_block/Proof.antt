@@ -16,7 +16,7 @@ use Rattle.search.proofs.SpanLaws.{refine-spanned}
 use Rattle.inter.specs.declared.found.Found.{Found}
 use Rattle.inter.specs.Found.{foundOf}
 use Rattle.inter.specs.Refinement.{windowAnswer}
-use Rattle.inter.proofs.RefusalLaws.{refuses-at, finds}
+use Rattle.inter.proofs.AnswerLaws.{refuses-at, finds}
 use Rattle.inter.proofs.refinement.refine_block.Statement.{statement}
 use Rattle.inter.proofs.refinement.refine_block.Tie as tie
 

@@ -15,7 +15,8 @@ use Rattle.search.specs.declared.result.MotionSearchResult.{MotionSearchResult}
 use Rattle.inter.specs.declared.found.Found.{Found}
 use Rattle.inter.specs.Found.{refused, foundOf}
 use Rattle.inter.specs.Searches.{searchBy, searchRefusal, searchAnswer}
-use Rattle.inter.proofs.RefusalLaws.{Opened, opened, refuses-first, refuses-later, refuses-at, finds}
+use Rattle.inter.proofs.OpenedLaws.{Opened, opened}
+use Rattle.inter.proofs.AnswerLaws.{refuses-first, refuses-later, refuses-at, finds}
 use Rattle.inter.proofs.searches.single_search.Statement.{statement}
 use Rattle.inter.proofs.searches.single_search.Tie as tie
 

@@ -9,9 +9,9 @@ use lib.Dec.{ltb}
 use Rattle.motion.specs.Limits.{largestSide}
 use Rattle.motion.specs.Superblock.{superblocks}
 use Rattle.motion.proofs.TestLaws.{passed, failed}
-use Rattle.inter.specs.Refusal.{refuse, _then_, sideOk, levelOk}
+use Rattle.refusal.specs.Tests.{refuse, _then_, sideOk, levelOk}
+use Rattle.refusal.proofs.RefusalLaws.{side-of, first-is}
 use Rattle.inter.specs.Steps.{stepTests}
-use Rattle.inter.proofs.RefusalLaws.{side-of, first-is}
 use Rattle.inter.proofs.steps.step_tests.Statement.{statement}
 use Rattle.inter.proofs.steps.step_tests.Tie as tie
 

@@ -1,4 +1,4 @@
--- `inter::refusal::start_ok` meets its contract.
+-- `refusal::tests::start_ok` meets its contract.
 -- Assumes nothing.
 use borrow.Author.Needs.{needs}
 use borrow.Author.Tests.{lt-ltb, le-ltb}
@@ -7,10 +7,10 @@ use Prim.Native.Nat.{ℕ, _*_, _/_, _%_}
 use native.Mathlib.Omega.{arith}
 use lib.Dec.{eqb}
 use Rattle.motion.specs.Limits.{cellSide}
-use Rattle.inter.specs.Refusal.{startOk}
-use Rattle.inter.proofs.RefusalLaws.{size-bounds}
-use Rattle.inter.proofs.refusal.start_ok.Statement.{statement}
-use Rattle.inter.proofs.refusal.start_ok.Tie as tie
+use Rattle.refusal.specs.Tests.{startOk}
+use Rattle.refusal.proofs.RefusalLaws.{size-bounds}
+use Rattle.refusal.proofs.tests.start_ok.Statement.{statement}
+use Rattle.refusal.proofs.tests.start_ok.Tie as tie
 
 returns : tie.Need-returns
 unfolding startOk

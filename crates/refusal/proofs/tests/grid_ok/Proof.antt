@@ -1,13 +1,13 @@
--- `inter::refusal::grid_ok` meets its contract.
+-- `refusal::tests::grid_ok` meets its contract.
 -- Assumes nothing.
 use borrow.Author.Tests.{le-leb, lt-leb}
 use Prim.Native.Nat.{_/_, _^_}
 use native.Mathlib.Nat.{mul-le-mul}
 use native.Mathlib.Omega.{arith}
 use Rattle.predict.specs.Grid.{cells}
-use Rattle.inter.specs.Refusal.{gridOk}
-use Rattle.inter.proofs.refusal.grid_ok.Statement.{statement}
-use Rattle.inter.proofs.refusal.grid_ok.Tie as tie
+use Rattle.refusal.specs.Tests.{gridOk}
+use Rattle.refusal.proofs.tests.grid_ok.Statement.{statement}
+use Rattle.refusal.proofs.tests.grid_ok.Tie as tie
 
 mul-cells : tie.Need-mul-cells
 mul-cells c =

@@ -3,12 +3,12 @@ use motion::level::level_of;
 ghost use mathlib.Core.Path.{_≡_};
 ghost use Prim.Native.Nat.{_≤_};
 ghost use lib.ListN.{length};
-ghost use Rattle.inter.specs.Refusal.{sideOk, levelOk, sizeOf, startOk, planeOk, blockRefusal, planesRefusal, callRefusal, gridOk};
+ghost use Rattle.refusal.specs.Tests.{sideOk, levelOk, sizeOf, startOk, planeOk, blockRefusal, planesRefusal, callRefusal, gridOk};
 ghost use Rattle.motion.specs.Limits.{largestSide};
 
 const LARGEST_SIDE: usize = 1024;
 
-pub(crate) fn side_ok(side: usize) -> bool
+pub fn side_ok(side: usize) -> bool
     ensures { λ r. ⌜ r ≡ sideOk side ⌝ }
 {
     if side % 8 != 0 {
@@ -21,7 +21,7 @@ pub(crate) fn side_ok(side: usize) -> bool
 }
 
 // `refined` is 0 for a level's own block, anything else for the block that it refines first.
-pub(crate) fn level_ok(level: usize, refined: usize) -> bool
+pub fn level_ok(level: usize, refined: usize) -> bool
     ensures { λ r. ⌜ r ≡ levelOk level refined ⌝ }
 {
     if level == 2 {
@@ -95,7 +95,7 @@ fn plane_ok(width: usize, height: usize, level: usize, len: usize) -> bool
 }
 
 // The test of number 4, of the two planes of a level.
-pub(crate) fn planes_refusal(
+pub fn planes_refusal(
     width: usize,
     height: usize,
     level: usize,
@@ -135,7 +135,7 @@ pub fn call_refusal(
 }
 
 // The test of number 5: whether a grid of these three lengths holds a frame's cells.
-pub(crate) fn grid_ok(width: usize, height: usize, rows: usize, cols: usize, sads: usize) -> bool
+pub fn grid_ok(width: usize, height: usize, rows: usize, cols: usize, sads: usize) -> bool
     requires { ⌜ (width ≤ largestSide) × (height ≤ largestSide) ⌝ }
     ensures { λ r. ⌜ r ≡ gridOk width height rows cols sads ⌝ }
 {

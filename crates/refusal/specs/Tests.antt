@@ -1,11 +1,12 @@
--- The numbers returned: the tests of a call, in the order of the numbers; the first that fails gives its number.
+-- The tests behind the numbers returned, of sides, level, block, planes and grid; the first that fails gives its number.
 use Prim.Native.Nat.{ℕ, zero, suc, _*_, _/_, _%_}
 use mathlib.Core.Bool.{Bool, _&&_, _||_, cond}
 use lib.Dec.{leb, ltb, eqb}
+use lib.ListN.{length}
 use Rattle.motion.specs.Limits.{sideStep, largestSide, cellSide}
 use Rattle.motion.specs.Level.{levelOf}
 use Rattle.motion.specs.Block.{planeOf}
-use Rattle.predict.specs.Grid.{cells}
+use Rattle.predict.specs.Grid.{Grid, cells}
 
 -- a test that refuses with a number where it does not pass
 unfoldable pub refuse : ℕ → Bool → ℕ
@@ -58,3 +59,7 @@ callRefusal width height level refined bx by n m =
 unfoldable pub gridOk : ℕ → ℕ → ℕ → ℕ → ℕ → Bool
 gridOk width height rows cols sads =
     leb (cells width height) rows && (leb (cells width height) cols && leb (cells width height) sads)
+
+-- the same of a grid's own three buffers
+unfoldable pub gridHolds : ℕ → ℕ → Grid → Bool
+gridHolds width height g = gridOk width height (length (g .rows)) (length (g .cols)) (length (g .sads))

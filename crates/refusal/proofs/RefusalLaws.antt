@@ -1,10 +1,10 @@
--- What a call that is not refused may count on. Assumes nothing.
+-- What a call may count on where tests passed, and which number it gets where one did not. Assumes nothing.
 use mathlib.Core.Path.{_≡_, refl, sym, ap, subst, _∙_}
 use mathlib.Core.Bool.{Bool, true, false, _&&_, _||_, cond}
-use mathlib.Core.Logic.{_⊎_, ⊎-elim}
+use mathlib.Core.Logic.{⊎-elim}
 use Prim.Native.Nat.{ℕ, zero, suc, _*_, _/_, _%_, _≤_, _<_}
 use native.Mathlib.Omega.{arith}
-use borrow.Author.Tests.{leb-true, ltb-true, eqb-true, eq-eqb, ne-eqb}
+use borrow.Author.Tests.{leb-true, ltb-true, eqb-true}
 use lib.Dec.{leb, ltb, eqb}
 use lib.ListN.{length}
 use Rattle.motion.specs.Limits.{sideStep, largestSide, cellSide}
@@ -12,15 +12,9 @@ use Rattle.motion.specs.Level.{level4, level3, level2, levelOf}
 use Rattle.motion.specs.Frame.{Side, Starts, Sized, Placed, own4, own3, own2, refined3, refined2}
 use Rattle.motion.specs.Block.{planeOf}
 use Rattle.motion.proofs.TestLaws.{both, either}
-use Rattle.sad.specs.Plane.{Lies}
-use Rattle.sad.proofs.Contained.{lies}
 use Rattle.motion.proofs.LevelLaws.{each-level}
 use Rattle.predict.specs.Grid.{Grid, Held, cells}
-use Rattle.inter.specs.declared.found.Found.{Found}
-use Rattle.inter.specs.Found.{refused, answer}
-use Rattle.inter.specs.Refusal.{refuse, _then_, sideOk, levelOk, sizeOf, startOk, planeOk, blockRefusal, planesRefusal, callRefusal, gridOk}
-use Rattle.inter.specs.Call.{blockAt}
-use Rattle.inter.specs.Grids.{gridHolds}
+use Rattle.refusal.specs.Tests.{refuse, _then_, sideOk, levelOk, sizeOf, startOk, planeOk, blockRefusal, planesRefusal, gridOk, gridHolds}
 
 -- no number at all: the first test passed, and no later one refused
 pub first-passed : (n : ℕ) (t : Bool) (later : ℕ) → refuse (suc n) t then later ≡ 0 → (t ≡ true) × (later ≡ 0)
@@ -134,26 +128,6 @@ planes-short width height level n m h = go (planeOk width height level n && plan
     go true h = absurd (h refl)
     go false h = refl
 
--- a call that numbers 1 to 4 leave has its block inside both planes
-pub record Opened (width height level refined bx by n m : ℕ) : Type 0 where
-  pub none : blockRefusal width height level refined bx by ≡ 0
-  pub block : Placed width height (levelOf level) (sizeOf level refined) bx by
-  pub cur : Lies (blockAt width height level refined bx by) n
-  pub ref : Lies (blockAt width height level refined bx by) m
-
-pub opened : (width height level refined bx by n m : ℕ) → callRefusal width height level refined bx by n m ≡ 0 → Opened width height level refined bx by n m
-unfolding callRefusal blockAt
-opened width height level refined bx by n m e =
-    let parts = none-of (blockRefusal width height level refined bx by) (planesRefusal width height level n m) e in
-    let ok = accepted width height level refined bx by (parts .0) in
-    let planes = lent width height level n m (parts .1) in
-    record {
-      none = parts .0;
-      block = ok;
-      cur = lies (ok .sized) (ok .wide) (ok .high) (ok .across) (ok .down) n (planes .cur);
-      ref = lies (ok .sized) (ok .wide) (ok .high) (ok .across) (ok .down) m (planes .ref);
-    }
-
 -- what number 5 leaves
 pub held : (width height : ℕ) (g : Grid) → gridHolds width height g ≡ true → Held width height g
 unfolding gridHolds gridOk
@@ -177,31 +151,3 @@ size-bounds level refined = go (eqb refined 0)
 
 pub row-bounds : (level : ℕ) → (levelOf level .ssdec ≤ 2) × (levelOf level .pad ≤ 48)
 row-bounds level = each-level (λ l. (l .ssdec ≤ 2) × (l .pad ≤ 48)) (omega arith) (omega arith) (omega arith) level
-
--- an answer is the first refusal, and what was found where there is none
-pub refuses-first : (n later : ℕ) (f : Found) → (n ≡ 0 → ⊥) → answer (n then later) f ≡ refused n
-unfolding answer _then_
-refuses-first zero later f h = absurd (h refl)
-refuses-first (suc n) later f h = rw (ne-eqb (suc n) 0 h)
-
-pub refuses-later : (n later : ℕ) (f : Found) → n ≡ 0 → answer (n then later) f ≡ answer later f
-unfolding _then_
-refuses-later n later f e = ap (λ (m : ℕ). answer (m then later) f) e
-
-pub refuses : (n : ℕ) (f : Found) → (n ≡ 0 → ⊥) → answer n f ≡ refused n
-unfolding answer
-refuses n f h = rw (ne-eqb n 0 h)
-
--- the same of a last test
-pub refuses-at : (n : ℕ) (t : Bool) (f : Found) → t ≡ false → answer (refuse (suc n) t) f ≡ refused (suc n)
-unfolding refuse
-refuses-at n t f e =
-    ap (λ (s : Bool). answer (refuse (suc n) s) f) e ∙ refuses (suc n) f (λ h. absurd (omega arith))
-
-pub finds : (n : ℕ) (t : Bool) (f : Found) → t ≡ true → answer (refuse n t) f ≡ f
-unfolding answer refuse
-finds n t f e = rw e
-
-pub answers : (n : ℕ) (f : Found) → n ≡ 0 → answer n f ≡ f
-unfolding answer
-answers n f e = rw (eq-eqb n 0 e)

@@ -1,12 +1,12 @@
--- `inter::refusal::size_of` meets its contract.
+-- `refusal::tests::size_of` meets its contract.
 -- Assumes nothing.
 use borrow.Author.Needs.{needs}
 use borrow.Author.Tests.{eq-eqb, ne-eqb}
 use mathlib.Core.Path.{ap}
 use Rattle.motion.specs.declared.level.Level.{Level}
-use Rattle.inter.specs.Refusal.{sizeOf}
-use Rattle.inter.proofs.refusal.size_of.Statement.{statement}
-use Rattle.inter.proofs.refusal.size_of.Tie as tie
+use Rattle.refusal.specs.Tests.{sizeOf}
+use Rattle.refusal.proofs.tests.size_of.Statement.{statement}
+use Rattle.refusal.proofs.tests.size_of.Tie as tie
 
 level-of-requires : tie.Need-level-of-requires
 level-of-requires c κs = search needs

@@ -1,11 +1,11 @@
--- `inter::refusal::call_refusal` meets its contract.
+-- `refusal::tests::call_refusal` meets its contract.
 -- Assumes nothing.
 use borrow.Author.Needs.{needs}
 use mathlib.Core.Path.{sym, _∙_}
-use Rattle.inter.specs.Refusal.{_then_, callRefusal}
-use Rattle.inter.proofs.RefusalLaws.{accepted, first-is, then-later}
-use Rattle.inter.proofs.refusal.call_refusal.Statement.{statement}
-use Rattle.inter.proofs.refusal.call_refusal.Tie as tie
+use Rattle.refusal.specs.Tests.{callRefusal}
+use Rattle.refusal.proofs.RefusalLaws.{accepted, first-is, then-later}
+use Rattle.refusal.proofs.tests.call_refusal.Statement.{statement}
+use Rattle.refusal.proofs.tests.call_refusal.Tie as tie
 
 block-refusal-requires : tie.Need-block-refusal-requires
 block-refusal-requires c κs = search needs

@@ -1,10 +1,10 @@
--- `inter::refusal::planes_refusal` meets its contract.
+-- `refusal::tests::planes_refusal` meets its contract.
 -- Assumes nothing.
 use borrow.Author.Needs.{needs}
 use Rattle.motion.proofs.TestLaws.{passed, failed}
-use Rattle.inter.specs.Refusal.{refuse, planesRefusal}
-use Rattle.inter.proofs.refusal.planes_refusal.Statement.{statement}
-use Rattle.inter.proofs.refusal.planes_refusal.Tie as tie
+use Rattle.refusal.specs.Tests.{refuse, planesRefusal}
+use Rattle.refusal.proofs.tests.planes_refusal.Statement.{statement}
+use Rattle.refusal.proofs.tests.planes_refusal.Tie as tie
 
 plane-ok-requires : tie.Need-plane-ok-requires
 plane-ok-requires c κs = search needs

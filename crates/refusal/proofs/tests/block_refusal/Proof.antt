@@ -1,13 +1,13 @@
--- `inter::refusal::block_refusal` meets its contract: each return has the tests before it passed.
+-- `refusal::tests::block_refusal` meets its contract: each return has the tests before it passed.
 -- Assumes nothing.
 use borrow.Author.Needs.{needs}
 use mathlib.Core.Path.{_≡_}
 use mathlib.Core.Bool.{true}
 use Rattle.motion.proofs.TestLaws.{passed, failed}
-use Rattle.inter.specs.Refusal.{refuse, _then_, sideOk, levelOk, sizeOf, startOk, blockRefusal}
-use Rattle.inter.proofs.RefusalLaws.{side-of}
-use Rattle.inter.proofs.refusal.block_refusal.Statement.{statement}
-use Rattle.inter.proofs.refusal.block_refusal.Tie as tie
+use Rattle.refusal.specs.Tests.{refuse, _then_, sideOk, levelOk, sizeOf, startOk, blockRefusal}
+use Rattle.refusal.proofs.RefusalLaws.{side-of}
+use Rattle.refusal.proofs.tests.block_refusal.Statement.{statement}
+use Rattle.refusal.proofs.tests.block_refusal.Tie as tie
 
 width-passed : (c : tie.Else1) → sideOk (c .before .before .args .width) ≡ true
 width-passed c = passed (c .before .side-ok .ensures) (c .if1 .left)

@@ -1,4 +1,4 @@
--- `inter::refusal::plane_ok` meets its contract: a plane of a frame has far fewer than 2 ^ 64 samples.
+-- `refusal::tests::plane_ok` meets its contract: a plane of a frame has far fewer than 2 ^ 64 samples.
 -- Assumes nothing.
 use borrow.Author.Needs.{needs}
 use mathlib.Core.Path.{_≡_, ap, _∙_}
@@ -10,10 +10,10 @@ use Rattle.motion.specs.declared.block.Plane.{Plane}
 use Rattle.motion.specs.declared.level.Level.{Level}
 use Rattle.motion.specs.Level.{levelOf}
 use Rattle.motion.specs.Block.{planeOf}
-use Rattle.inter.specs.Refusal.{planeOk}
-use Rattle.inter.proofs.RefusalLaws.{row-bounds}
-use Rattle.inter.proofs.refusal.plane_ok.Statement.{statement}
-use Rattle.inter.proofs.refusal.plane_ok.Tie as tie
+use Rattle.refusal.specs.Tests.{planeOk}
+use Rattle.refusal.proofs.RefusalLaws.{row-bounds}
+use Rattle.refusal.proofs.tests.plane_ok.Statement.{statement}
+use Rattle.refusal.proofs.tests.plane_ok.Tie as tie
 
 plane-is : (c : tie.After-plane-of) → c .plane-of .result ≡ planeOf (c .before .before .args .width) (c .before .before .args .height) (levelOf (c .before .before .args .level))
 plane-is c =

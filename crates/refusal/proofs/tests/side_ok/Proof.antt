@@ -1,10 +1,10 @@
--- `inter::refusal::side_ok` meets its contract.
+-- `refusal::tests::side_ok` meets its contract.
 -- Assumes nothing.
 use borrow.Author.Tests.{eq-eqb, ne-eqb, le-leb, lt-leb}
 use Rattle.motion.specs.Limits.{sideStep}
-use Rattle.inter.specs.Refusal.{sideOk}
-use Rattle.inter.proofs.refusal.side_ok.Statement.{statement}
-use Rattle.inter.proofs.refusal.side_ok.Tie as tie
+use Rattle.refusal.specs.Tests.{sideOk}
+use Rattle.refusal.proofs.tests.side_ok.Statement.{statement}
+use Rattle.refusal.proofs.tests.side_ok.Tie as tie
 
 returns : tie.Need-returns
 unfolding sideOk

@@ -1,9 +1,9 @@
--- `inter::refusal::level_ok` meets its contract.
+-- `refusal::tests::level_ok` meets its contract.
 -- Assumes nothing.
 use borrow.Author.Tests.{eq-eqb, ne-eqb}
-use Rattle.inter.specs.Refusal.{levelOk}
-use Rattle.inter.proofs.refusal.level_ok.Statement.{statement}
-use Rattle.inter.proofs.refusal.level_ok.Tie as tie
+use Rattle.refusal.specs.Tests.{levelOk}
+use Rattle.refusal.proofs.tests.level_ok.Statement.{statement}
+use Rattle.refusal.proofs.tests.level_ok.Tie as tie
 
 returns : tie.Need-returns
 unfolding levelOk

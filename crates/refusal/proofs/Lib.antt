@@ -1,0 +1,2 @@
+-- Laws that several proofs and other crates cite.
+pub mod RefusalLaws

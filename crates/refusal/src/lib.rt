@@ -1,0 +1,2 @@
+// The tests behind the refusals' numbers: sides, level, block start, planes and grid.
+pub mod tests;
