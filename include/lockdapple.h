@@ -1,11 +1,14 @@
 /* The entry points of Lockdapple, for C and C++ on x86-64.
  *
- * Link the static library that `rt staticlib inter` writes. No function asks
- * anything of its caller: whatever numbers and buffers come, it ends, reads
- * only what it was lent, and answers or refuses; a step and a run write to the
- * grid that they are lent and nowhere else. A slice is a pointer and a count
- * of elements; with a count of 0 the pointer may be anything but null. A buffer
- * that is written must not overlap another.
+ * Link the static library that `rt staticlib inter` writes and, for the two
+ * functions of grid files at the end, the one that `rt staticlib gridfile`
+ * writes; a program can link either alone, or both. No function asks anything
+ * of its caller: whatever numbers and buffers come, it ends, reads only what it
+ * was lent, and answers or refuses; a step, a run and the reading of a file
+ * write to the grid that they are lent, the writing of a file to the bytes that
+ * it is lent, and nowhere else. A slice is a pointer and a count of elements;
+ * with a count of 0 the pointer may be anything but null. A buffer that is
+ * written must not overlap another.
  *
  * Frame: width and height are multiples of 8, from 8 to 1,024.
  * Level: 4, 3 or 2, with blocks of 64, 32 or 16 pixels, shift s = 2, 1 or 0,
@@ -26,8 +29,9 @@
  * Superblock: 64 by 64 pixels, numbered from 0 in raster order,
  * (width + 63) / 64 in each of (height + 63) / 64 rows.
  *
- * Refusals (the lowest that applies, with 0 in every other field; after one
- * every cell of the grid stays as it was):
+ * Refusals (the lowest that applies, but for the reading of a file, where the
+ * first from the file's front counts; with 0 in every other field; after one
+ * every cell of the grid and every byte of the file stays as it was):
  *   0  done
  *   1  width or height outside the rule above
  *   2  level not 2, 3 or 4; for a refinement, not 2 or 3
@@ -40,6 +44,11 @@
  *   7  the list has two superblocks that share an edge against raster order
  *   8  a refinement's window is empty
  *   9  the start vector is outside the block's range
+ *  10  a record of the file that is read does not start with the mark
+ *  11  the file that is read is too short or too long
+ *  12  the file that is read has an odd number of columns or rows
+ *  13  fewer bytes are lent than the file has that is written, or a buffer of
+ *      the grid has fewer cells than the file that is read
  */
 #ifndef LOCKDAPPLE_H
 #define LOCKDAPPLE_H
@@ -166,6 +175,49 @@ uint32_t lockdapple_frame_run(size_t width, size_t height, const uint8_t *cur, s
                               size_t prev_cols_len, const uint32_t *prev_sads, size_t prev_sads_len,
                               const uint16_t *list, size_t list_len, int16_t *rows, size_t rows_len, int16_t *cols,
                               size_t cols_len, uint32_t *sads, size_t sads_len);
+
+/* Grid files: a grid as bytes, to be kept.
+ *
+ * A file is records, and each starts with the mark, the bytes 4C 47 (hex). The
+ * first then has the columns of cells less one and the rows of cells less one,
+ * a byte each; each later one is a cell, row by row: its row and its col as
+ * signed 16-bit numbers and its SAD as an unsigned one of 32 bits, the lowest
+ * byte first. So it has 4 bytes, and 10 for each cell: 44 for a frame of 8 by 8
+ * pixels, 655,364 for one of 1,024 by 1,024. What a run has left is kept by
+ *
+ *     size_t cells = (width / 4) * (height / 4), size = 4 + 10 * cells;
+ *     uint8_t *file = malloc(size);
+ *     if (lockdapple_grid_write(width, height, rows, cells, cols, cells, sads,
+ *                               cells, file, size).code == 0)
+ *         fwrite(file, 1, size, out);
+ */
+
+/* A refusal's number, and how many bytes the file has. */
+struct lockdapple_written {
+    uint32_t code;
+    uint64_t bytes;
+};
+
+/* A refusal's number, and the columns and rows of cells of the grid: the
+ * frame's width and height are four times as much. */
+struct lockdapple_shape {
+    uint32_t code;
+    uint32_t columns;
+    uint32_t rows;
+};
+
+/* The file of a frame's grid, written from the start of `file`; bytes past it
+ * are never written. Refuses with 1, 5 and 13. */
+struct lockdapple_written lockdapple_grid_write(size_t width, size_t height, const int16_t *rows, size_t rows_len,
+                                                const int16_t *cols, size_t cols_len, const uint32_t *sads,
+                                                size_t sads_len, uint8_t *file, size_t file_len);
+
+/* The grid of a file that all of `file` is; cells past the file's are never
+ * written. Refuses from the front: the header with 10, 11, 12 and 13, then the
+ * cells with 10 and 11: 10 where a wrong byte stands in a mark, 11 where bytes
+ * run out or are left over. */
+struct lockdapple_shape lockdapple_grid_read(const uint8_t *file, size_t file_len, int16_t *rows, size_t rows_len,
+                                             int16_t *cols, size_t cols_len, uint32_t *sads, size_t sads_len);
 
 #ifdef __cplusplus
 }

@@ -1,5 +1,5 @@
-/* include/lockdapple.h compiles as C and C++, its structs lie as the library's do, and each function answers
- * what document 01 says of a flat frame of 8 by 8 pixels. */
+/* include/lockdapple.h compiles as C and C++, its structs lie as the libraries' do, and each function answers
+ * what document 01 says of a flat frame of 8 by 8 pixels. Grid files are gridfile.c's. */
 #include "lockdapple.h"
 
 #include <stdio.h>
@@ -29,6 +29,11 @@ HOLDS(offsetof(struct lockdapple_subsets, c_count) == 16);
 HOLDS(offsetof(struct lockdapple_subsets, center) == 20);
 HOLDS(offsetof(struct lockdapple_subsets, b) == 24);
 HOLDS(offsetof(struct lockdapple_subsets, c) == 44);
+HOLDS(sizeof(struct lockdapple_written) == 16);
+HOLDS(offsetof(struct lockdapple_written, bytes) == 8);
+HOLDS(sizeof(struct lockdapple_shape) == 12);
+HOLDS(offsetof(struct lockdapple_shape, columns) == 4);
+HOLDS(offsetof(struct lockdapple_shape, rows) == 8);
 
 /* The quarter, half and full plane of a frame of 8 by 8: 2 + 40, 4 + 80 and 8 + 96 samples a side. */
 static uint8_t flat[104 * 104];

@@ -1,13 +1,16 @@
 //! Times the published Rust, the same with a SAD kernel in the processor's own
-//! instructions, and the proved code, on the same frames.
+//! instructions, and the proved code, on the same frames; and grid files.
 
 mod clock;
 mod columns;
+mod files;
 mod frames;
 mod load;
+mod loops;
 mod ours;
 #[allow(dead_code)]
 mod proved;
+mod proved_files;
 mod rows;
 mod sads;
 
@@ -27,8 +30,8 @@ fn ratios(times: &Times) -> [f64; 2] {
 /// The heading of the ratios.
 const RATIOS: &str = "    3/1    3/2";
 
-fn heading(what: &str, last: &str) {
-    let [one, two, three] = NAMES;
+fn heading(what: &str, names: [&str; 3], last: &str) {
+    let [one, two, three] = names;
     println!("\n{what}: median of {ROUNDS} rounds, and (third quartile - first) / median");
     println!("{:24} {one:>14} {two:>14} {three:>14}{last}", "");
 }
@@ -44,7 +47,7 @@ fn line(name: &str, times: &Times, unit: f64) {
 fn frame_runs(table: &[Row], rest: &[Row]) -> Result<Vec<(Row, Times)>, String> {
     let mut timed = Vec::new();
     if !table.is_empty() {
-        heading("frame runs, milliseconds", RATIOS);
+        heading("frame runs, milliseconds", NAMES, RATIOS);
     }
     for &row in table {
         let times = row.time()?;
@@ -63,7 +66,7 @@ fn print_growth(timed: &[(Row, Times)]) {
     let mut rows: Vec<_> = timed.iter().filter(in_growth).collect();
     rows.sort_by_key(|(row, _)| (place(row), row.width));
     if !rows.is_empty() {
-        heading("growth, nanoseconds a pixel", RATIOS);
+        heading("growth, nanoseconds a pixel", NAMES, RATIOS);
     }
     for (row, times) in rows {
         line(&row.name(), times, row.pixels());
@@ -71,7 +74,7 @@ fn print_growth(timed: &[(Row, Times)]) {
 }
 
 fn print_sads() -> Result<(), String> {
-    heading("16x16 SAD, nanoseconds", "");
+    heading("16x16 SAD, nanoseconds", NAMES, "");
     for (name, columns) in sads()? {
         let shown = columns.map(|column| match column {
             Some(summary) => summary.show(1.0),
@@ -82,21 +85,34 @@ fn print_sads() -> Result<(), String> {
     Ok(())
 }
 
+fn print_files(rows: &[files::Row]) -> Result<(), String> {
+    if !rows.is_empty() {
+        let what = "a grid file of 256x256 cells, microseconds";
+        heading(what, files::NAMES, RATIOS);
+    }
+    for (name, times) in rows {
+        line(name, &times()?, 1e3);
+    }
+    Ok(())
+}
+
 fn asked(rows: Vec<Row>, only: &str) -> Vec<Row> {
     let named = |row: &Row| row.name().contains(only);
     rows.into_iter().filter(named).collect()
 }
 
 /// Prints everything; or says what the three differ on.
-fn bench(table: &[Row], rest: &[Row], with_sads: bool) -> Result<(), String> {
-    let cropped = check_cropped()?;
-    println!("equal      the grids of all three, on {cropped} frames with cropped blocks");
+fn bench(table: &[Row], rest: &[Row], with_sads: bool, files: &[files::Row]) -> Result<(), String> {
+    let (cropped, small) = (check_cropped()?, files::check()?);
+    println!("equal      the grids of all three, on {cropped} frames with cropped blocks,");
+    println!("           answers and cells of {small} small grid files, whole and not,");
     println!("           and after every piece that is timed below");
     let timed = frame_runs(table, rest)?;
     print_growth(&timed);
     if with_sads {
         print_sads()?;
     }
+    print_files(files)?;
     let worst = [0, 1].map(|other| {
         let ratios = timed.iter().map(|(_, times)| ratios(times)[other]);
         let most = ratios.reduce(f64::max);
@@ -121,10 +137,12 @@ fn main() -> ExitCode {
     };
     let (table, rest) = (asked(Row::table(), only), asked(Row::growth(), only));
     let with_sads = "sad".contains(only);
-    if table.is_empty() && rest.is_empty() && !with_sads {
+    let mut files = files::ROWS.to_vec();
+    files.retain(|(name, _)| name.contains(only));
+    if table.is_empty() && rest.is_empty() && !with_sads && files.is_empty() {
         return usage(&format!("no row has {only:?} in its name"));
     }
-    match bench(&table, &rest, with_sads) {
+    match bench(&table, &rest, with_sads, &files) {
         Ok(()) => ExitCode::SUCCESS,
         Err(what) => {
             println!("different: {what}");

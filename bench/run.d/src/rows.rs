@@ -39,6 +39,22 @@ pub struct Row {
 
 pub type Times = [Summary; 3];
 
+/// Makes a round, so many calls of each column, and gives the time of one call of
+/// each; or says what they differ on.
+pub type Round<'a> = dyn Fn([usize; 3]) -> Result<[f64; 3], String> + 'a;
+
+/// The times of all rounds, pieces of the columns in turn.
+pub fn rounds(one: &Round<'_>) -> Result<Times, String> {
+    // The first round also brings everything into the caches.
+    let turns = one([1; 3])?.map(|time| (PIECE / time).ceil() as usize);
+    let mut rounds: [Vec<f64>; 3] = Default::default();
+    for _ in 0..ROUNDS {
+        let times = one(turns)?;
+        rounds.iter_mut().zip(times).for_each(|(r, t)| r.push(t));
+    }
+    Ok(rounds.map(Summary::of))
+}
+
 impl Row {
     fn each(sizes: &[(usize, usize)], contents: &[Content], previous: &[bool]) -> Vec<Row> {
         let mut rows = Vec::new();
@@ -78,23 +94,14 @@ impl Row {
     /// The times of the columns in turn; or, where they leave different grids, what
     /// they differ on.
     pub fn time(&self) -> Result<Times, String> {
-        self.on_columns(|one| {
-            // The first round also brings everything into the caches.
-            let turns = one([1; 3])?.map(|time| (PIECE / time).ceil() as usize);
-            let mut rounds: [Vec<f64>; 3] = Default::default();
-            for _ in 0..ROUNDS {
-                let times = one(turns)?;
-                rounds.iter_mut().zip(times).for_each(|(r, t)| r.push(t));
-            }
-            Ok(rounds.map(Summary::of))
-        })
+        self.on_columns(rounds)
     }
 
     /// Runs `body` with the columns made ready: what it is given makes a round, so
     /// many runs of each column, and compares the grids.
     fn on_columns<R>(
         &self,
-        body: impl FnOnce(&dyn Fn([usize; 3]) -> Result<[f64; 3], String>) -> Result<R, String>,
+        body: impl FnOnce(&Round<'_>) -> Result<R, String>,
     ) -> Result<R, String> {
         let frame = frame(self.content, self.width, self.height);
         let columns = columns(&frame);

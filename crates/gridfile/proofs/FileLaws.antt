@@ -1,0 +1,123 @@
+-- Laws of a grid's file that is read: its header, then each cell in its place. Assumes nothing.
+use mathlib.Core.Path.{_≡_, refl, ap, ap₂, subst, _∙_}
+use mathlib.Core.Bool.{cond}
+use mathlib.Core.Logic.{⊎-elim}
+use mathlib.Core.List.{List}
+use Prim.Native.Nat.{ℕ, zero, suc, _+_, _-_, _*_, _%_, _≤_, _<_}
+use native.Mathlib.Nat.{eq-or-lt-of-le}
+use native.Mathlib.Omega.{arith}
+use borrow.Author.Tests.{le-leb, eq-eqb}
+use lib.Dec.{eqb}
+use lib.ListN.{drop}
+use Rattle.predict.specs.declared.grid.MEStats.{MEStats}
+use Rattle.predict.specs.Grid.{Grid, statsAt}
+use Rattle.refusal.specs.Tests.{refuse, _then_}
+use Rattle.gridfile.specs.Records.{headerRecord, cellRecord, FitsCell}
+use Rattle.gridfile.specs.Writing.{cellRecords, fileOf}
+use Rattle.gridfile.specs.Reading.{State, between, start, marked, headerEnd, taken, withCell, kept, room, ended, readRefusal, shapeOf, readAnswer, readGrid}
+use Rattle.gridfile.specs.Keeps.{FitsCells, SameCells, SamePast}
+use Rattle.gridfile.proofs.WriteLaws.{length-cell}
+use Rattle.gridfile.proofs.RecordLaws.{cell-back}
+use Rattle.gridfile.proofs.TakenLaws.{taken-append, kept-append, record-taken, record-kept}
+use Rattle.gridfile.proofs.AcceptedLaws.{all-there}
+use Rattle.gridfile.proofs.HeaderLaws.{fourth-taken, header-kept}
+use Rattle.gridfile.proofs.KeptLaws.{same-room, cell-lengths, cell-here, kept-below, kept-past}
+
+-- columns and rows of cells that a header may have
+pub record Shaped (space columns rows : ℕ) : Type 0 where
+  pub wide : 0 < columns
+  pub high : 0 < rows
+  pub across : columns % 2 ≡ 0
+  pub down : rows % 2 ≡ 0
+  pub inside : columns * rows ≤ space
+
+-- nothing is wrong with such a header
+shaped-opens : {space columns rows : ℕ} → Shaped space columns rows → headerEnd space columns rows ≡ between columns rows 0
+unfolding headerEnd refuse _then_
+shaped-opens {space} {columns} {rows} h =
+    rw (eq-eqb (columns % 2) 0 (h .across), eq-eqb (rows % 2) 0 (h .down), le-leb (columns * rows) space (h .inside))
+
+-- the records of a grid's cells, from cell k on
+module _ (space columns rows : ℕ) (wide : 0 < columns) (g : Grid) where
+  module _ (k : ℕ) (more : k < columns * rows) where
+    one-taken : taken space (between columns rows k) (cellRecord (statsAt g k)) ≡ between columns rows (suc k)
+    unfolding cellRecord
+    one-taken = record-taken space columns rows k wide more (drop 2 (cellRecord (statsAt g k))) (omega (arith, length-cell (statsAt g k)))
+
+    one-kept : FitsCell (statsAt g k) → (lent : Grid) → kept space (between columns rows k) (cellRecord (statsAt g k)) lent ≡ withCell k (statsAt g k) lent
+    unfolding cellRecord
+    one-kept fits lent =
+        record-kept space columns rows k wide more (drop 2 (cellRecord (statsAt g k))) (omega (arith, length-cell (statsAt g k))) lent
+        ∙ ap (λ (c : MEStats). withCell k c lent) (cell-back (statsAt g k) fits)
+
+    rest-kept : (m : ℕ) → FitsCell (statsAt g k) → (lent : Grid) → kept space (between columns rows k) (cellRecords g k (suc m)) lent ≡ kept space (between columns rows (suc k)) (cellRecords g (suc k) m) (withCell k (statsAt g k) lent)
+    unfolding cellRecords
+    rest-kept m fits lent =
+        kept-append space (between columns rows k) (cellRecord (statsAt g k)) (cellRecords g (suc k) m) lent
+        ∙ ap₂ (λ (s : State) (h : Grid). kept space s (cellRecords g (suc k) m) h) one-taken (one-kept fits lent)
+
+  pub cells-taken : (m k : ℕ) → k + m ≤ columns * rows → taken space (between columns rows k) (cellRecords g k m) ≡ between columns rows (k + m)
+  unfolding cellRecords taken
+  cells-taken zero k h = ap (between columns rows) (omega arith)
+  cells-taken (suc m) k h =
+      taken-append space (between columns rows k) (cellRecord (statsAt g k)) (cellRecords g (suc k) m)
+      ∙ ap (λ (s : State). taken space s (cellRecords g (suc k) m)) (one-taken k (omega arith))
+      ∙ cells-taken m (suc k) (omega arith) ∙ ap (between columns rows) (omega arith)
+
+  -- each goes to its place, and the later ones leave it there
+  pub cells-kept : (m k : ℕ) → k + m ≤ columns * rows → FitsCells (k + m) g → (lent : Grid) → k + m ≤ room lent → (i : ℕ) → k ≤ i → i < k + m → statsAt (kept space (between columns rows k) (cellRecords g k m) lent) i ≡ statsAt g i
+  cells-kept zero k h fits lent long i low high = absurd (omega arith)
+  cells-kept (suc m) k h fits lent long i low high =
+      let now = withCell k (statsAt g k) lent in
+      let last = kept space (between columns rows (suc k)) (cellRecords g (suc k) m) now in
+      let here : statsAt last k ≡ statsAt g k = kept-below space (between columns rows (suc k)) (cellRecords g (suc k) m) now k wide (omega arith) ∙ cell-here k (statsAt g k) lent (omega arith) in
+      ap (λ (h : Grid). statsAt h i) (rest-kept k (omega arith) m (fits k (omega arith)) lent)
+      ∙ ⊎-elim (λ e. subst (λ (j : ℕ). statsAt last j ≡ statsAt g j) e here)
+      (λ above. cells-kept m (suc k) (omega arith) (λ j below. fits j (omega arith)) now (omega (arith, same-room (cell-lengths k (statsAt g k) lent))) i above (omega arith))
+      (eq-or-lt-of-le low)
+
+-- a read that is not refused
+pub read-grid : (file : List ℕ) (g : Grid) → readRefusal file g ≡ 0 → readGrid file g ≡ kept (room g) start file g
+unfolding readGrid
+read-grid file g done = ap (λ (n : ℕ). cond (eqb n 0) (kept (room g) start file g) g) done
+
+-- the file of one grid, read into another
+module _ (columns rows : ℕ) (g lent : Grid) (shaped : Shaped (room lent) columns rows) where
+  file-opens : headerEnd (room lent) (columns - 1 + 1) (rows - 1 + 1) ≡ between columns rows 0
+  file-opens = ap₂ (headerEnd (room lent)) (omega (arith, shaped .wide)) (omega (arith, shaped .high)) ∙ shaped-opens shaped
+
+  file-taken : taken (room lent) start (fileOf columns rows g) ≡ between columns rows (columns * rows)
+  unfolding fileOf headerRecord marked
+  file-taken =
+      let records = cellRecords g 0 (columns * rows) in
+      fourth-taken (room lent) 0x4C refl 0x47 refl (columns - 1) (rows - 1) records ∙ ap (λ (s : State). taken (room lent) s records) file-opens
+      ∙ cells-taken (room lent) columns rows (shaped .wide) g (columns * rows) 0 (omega arith) ∙ ap (between columns rows) (omega arith)
+
+  file-kept : kept (room lent) start (fileOf columns rows g) lent ≡ kept (room lent) (between columns rows 0) (cellRecords g 0 (columns * rows)) lent
+  unfolding fileOf headerRecord marked
+  file-kept =
+      let records = cellRecords g 0 (columns * rows) in
+      header-kept (room lent) 0x4C refl 0x47 refl (columns - 1) (rows - 1) records lent ∙ ap (λ (s : State). kept (room lent) s records lent) file-opens
+
+  file-ends : ended (taken (room lent) start (fileOf columns rows g)) ≡ 0
+  file-ends = ap ended file-taken ∙ all-there (room lent) columns rows (shaped .wide)
+
+  file-grid : readGrid (fileOf columns rows g) lent ≡ kept (room lent) start (fileOf columns rows g) lent
+  unfolding readRefusal
+  file-grid = read-grid (fileOf columns rows g) lent file-ends
+
+  pub file-answer : readAnswer (fileOf columns rows g) lent ≡ shapeOf 0 columns rows
+  unfolding readAnswer readRefusal
+  file-answer =
+      ap (λ (s : State). shapeOf (ended s) (s .columns) (s .rows)) file-taken
+      ∙ ap (λ (n : ℕ). shapeOf n columns rows) (all-there (room lent) columns rows (shaped .wide))
+
+  pub file-inside : FitsCells (columns * rows) g → SameCells (columns * rows) (readGrid (fileOf columns rows g) lent) g
+  file-inside fits i below =
+      ap (λ (h : Grid). statsAt h i) (file-grid ∙ file-kept)
+      ∙ cells-kept (room lent) columns rows (shaped .wide) g (columns * rows) 0 (omega arith) (λ j inside. fits j (omega arith)) lent (omega (arith, shaped .inside)) i (omega arith) (omega arith)
+
+  pub file-past : SamePast (columns * rows) (readGrid (fileOf columns rows g) lent) lent
+  file-past i past =
+      ap (λ (h : Grid). statsAt h i) file-grid
+      ∙ kept-past (room lent) start (fileOf columns rows g) lent i (omega (arith, ap (λ (s : State). s .cells) file-taken))

@@ -1,0 +1,15 @@
+-- Laws that several proofs cite, and the theorems of specs/Keeps.antt.
+pub mod WriteLaws
+pub mod RecordLaws
+pub mod TakenLaws
+pub mod AcceptedLaws
+pub mod HeaderLaws
+pub mod OpenedLaws
+pub mod PlaceLaws
+pub mod KeptLaws
+pub mod LeftLaws
+pub mod AnswerLaws
+pub mod FileLaws
+pub mod ReadLaws
+pub mod Keeps
+pub mod Examples

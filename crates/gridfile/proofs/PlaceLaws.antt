@@ -1,0 +1,201 @@
+-- Laws of a file's cells by their places in it: records whose marks hold go by, the first that does not gives 10, and what the
+-- last bytes give. Assumes nothing.
+use mathlib.Core.Path.{_≡_, refl, sym, ap, ap₂, _∙_}
+use mathlib.Core.Bool.{Bool, true, false, _&&_, cond, true≢false}
+use mathlib.Core.List.{List, [], _∷_, _++_}
+use mathlib.Core.Logic.{⊎-elim}
+use Prim.Native.Nat.{ℕ, zero, suc, _+_, _*_, _≤_, _<_}
+use native.Mathlib.Omega.{arith}
+use borrow.Author.Tests.{ltb-true, lt-ltb}
+use lib.Dec.{ltb, eqb}
+use lib.ListN.{length, getD, take, drop, length-drop, take-append-drop, drop-of-length-le}
+use lib.Seq.{slice, drop-cons, drop-drop, length-take-le, getD-drop}
+use mir.Syntax.{w8}
+use mir.Val.{Fits}
+use Rattle.motion.specs.Every.{allBelow}
+use Rattle.motion.proofs.TestLaws.{tested, both, same, not-so}
+use Rattle.refusal.specs.Tests.{refuse, _then_}
+use Rattle.gridfile.specs.Records.{mark, cellBytes, numberOf, fileBytes}
+use Rattle.gridfile.specs.Reading.{State, between, begun, marked, taken, ended}
+use Rattle.gridfile.proofs.WriteLaws.{two-bytes}
+use Rattle.gridfile.proofs.TakenLaws.{taken-append, first-byte, second-byte, first-right, second-right, at, at-more, part-taken, record-taken}
+use Rattle.gridfile.proofs.AcceptedLaws.{runs-out, wrong-mark, left-over, all-there}
+use Rattle.gridfile.proofs.HeaderLaws.{markNumber, mark-none, mark-first, mark-one, mark-second, mark-right}
+
+-- whether the record of a cell starts with the mark
+abbrev pub cellMarked : List ℕ → ℕ → Bool
+cellMarked file i = marked 0 (getD file (fileBytes i) 0) && marked 1 (getD file (fileBytes i + 1) 0)
+
+-- both bytes at once
+module _ (file : List ℕ) (k n : ℕ) (fits : (i : ℕ) → Fits w8 (getD file i 0)) (there : fileBytes k + 2 ≤ length file) (e : n ≡ numberOf (slice (fileBytes k) (fileBytes k + 2) file)) where
+  pub mark-holds : n ≡ 0x474C → cellMarked file k ≡ true
+  mark-holds h =
+      let sum = two-bytes file (fileBytes k) there in
+      let first = fits (fileBytes k) in
+      let second = fits (fileBytes k + 1) in
+      ap₂ _&&_ (first-right _ (omega (arith, e, sum, first, second))) (second-right _ (omega (arith, e, sum, first, second)))
+
+  pub mark-fails : (n ≡ 0x474C → ⊥) → cellMarked file k ≡ false
+  mark-fails h =
+      not-so (cellMarked file k) (λ ok.
+      let halves = both (marked 0 (getD file (fileBytes k) 0)) (marked 1 (getD file (fileBytes k + 1) 0)) ok in
+      h (omega (arith, e, two-bytes file (fileBytes k) there, first-byte _ (halves .0), second-byte _ (halves .1))))
+
+pub next-place : (k : ℕ) → fileBytes (suc k) ≡ fileBytes k + 10
+unfolding fileBytes
+next-place k = omega arith
+
+-- a record all of whose bytes are there
+module _ (file : List ℕ) (k : ℕ) (there : fileBytes (suc k) ≤ length file) where
+  abbrev eight : List ℕ
+  eight = take 8 (drop (suc (suc (fileBytes k))) file)
+
+  eight-long : length eight ≡ 8
+  eight-long =
+      length-take-le 8 (drop (suc (suc (fileBytes k))) file) (omega (arith, next-place k, length-drop (suc (suc (fileBytes k))) file))
+
+  two-eight : drop (fileBytes k) file ≡ getD file (fileBytes k) 0 ∷ getD file (fileBytes k + 1) 0 ∷ (eight ++ drop (fileBytes (suc k)) file)
+  two-eight =
+      let p = fileBytes k in
+      let behind : suc (suc p) + 8 ≡ fileBytes (suc k) = omega (arith, next-place k) in
+      let one : suc p ≡ p + 1 = omega arith in
+      drop-cons file p 0 (omega (arith, next-place k))
+      ∙ ap (λ (bytes : List ℕ). getD file p 0 ∷ bytes) (drop-cons file (suc p) 0 (omega (arith, next-place k)))
+      ∙ ap₂ (λ (b : ℕ) (bytes : List ℕ). getD file p 0 ∷ b ∷ bytes) (ap (λ (n : ℕ). getD file n 0) one) (sym (take-append-drop 8 (drop (suc (suc p)) file)) ∙ ap (λ (bytes : List ℕ). eight ++ bytes) (drop-drop 8 (suc (suc p)) file ∙ ap (λ (n : ℕ). drop n file) behind))
+
+  pub record-at : cellMarked file k ≡ true → drop (fileBytes k) file ≡ (mark ++ eight) ++ drop (fileBytes (suc k)) file
+  record-at ok =
+      let halves = both (marked 0 (getD file (fileBytes k) 0)) (marked 1 (getD file (fileBytes k + 1) 0)) ok in
+      two-eight ∙ ap₂ (λ (a b : ℕ). a ∷ b ∷ (eight ++ drop (fileBytes (suc k)) file)) (first-byte _ (halves .0)) (second-byte _ (halves .1))
+
+  module _ (room columns rows : ℕ) (wide : 0 < columns) (more : k < columns * rows) where
+    -- it goes by where its mark holds
+    pub skips : cellMarked file k ≡ true → taken room (between columns rows k) (drop (fileBytes k) file) ≡ taken room (between columns rows (suc k)) (drop (fileBytes (suc k)) file)
+    skips ok =
+        ap (taken room (between columns rows k)) (record-at ok) ∙ taken-append room (between columns rows k) (mark ++ eight) (drop (fileBytes (suc k)) file)
+        ∙ ap (λ (s : State). taken room s (drop (fileBytes (suc k)) file)) (record-taken room columns rows k wide more eight eight-long)
+
+    -- and gives 10 where it does not
+    first-off : marked 0 (getD file (fileBytes k) 0) ≡ false → ended (taken room (between columns rows k) (drop (fileBytes k) file)) ≡ 10
+    unfolding begun
+    first-off off =
+        ap (λ (bytes : List ℕ). ended (taken room (between columns rows k) bytes)) two-eight
+        ∙ wrong-mark room columns rows k wide more [] (getD file (fileBytes k + 1) 0 ∷ (eight ++ drop (fileBytes (suc k)) file)) (getD file (fileBytes k) 0) off
+
+    second-off : marked 0 (getD file (fileBytes k) 0) ≡ true → marked 1 (getD file (fileBytes k + 1) 0) ≡ false → ended (taken room (between columns rows k) (drop (fileBytes k) file)) ≡ 10
+    unfolding begun taken
+    second-off ok off =
+        let a = getD file (fileBytes k) 0 in
+        let b = getD file (fileBytes k + 1) 0 in
+        let rest = eight ++ drop (fileBytes (suc k)) file in
+        ap (λ (bytes : List ℕ). ended (taken room (between columns rows k) bytes)) two-eight
+        ∙ ap (λ (s : State). ended (taken room s (b ∷ rest))) (at-more room columns rows k wide more [] a ok (omega arith))
+        ∙ wrong-mark room columns rows k wide more (a ∷ []) rest b off
+
+    pub stops : cellMarked file k ≡ false → ended (taken room (between columns rows k) (drop (fileBytes k) file)) ≡ 10
+    stops off =
+        ⊎-elim (λ e. second-off e (sym (ap (λ (t : Bool). t && marked 1 (getD file (fileBytes k + 1) 0)) e) ∙ off)) first-off (tested (marked 0 (getD file (fileBytes k) 0)))
+
+-- the first records of a file, all of whose bytes are there
+module _ (file : List ℕ) (room columns rows : ℕ) (wide : 0 < columns) where
+  abbrev from-cell : ℕ → State
+  from-cell k = taken room (between columns rows k) (drop (fileBytes k) file)
+
+  pub marks-skip : (k : ℕ) → fileBytes k ≤ length file → k ≤ columns * rows → allBelow k (cellMarked file) ≡ true → from-cell 0 ≡ from-cell k
+  unfolding allBelow
+  marks-skip zero there few all = refl
+  marks-skip (suc k) there few all =
+      let halves = both (allBelow k (cellMarked file)) (cellMarked file k) all in
+      marks-skip k (omega (arith, next-place k)) (omega arith) (halves .0) ∙ skips file k there room columns rows wide (omega arith) (halves .1)
+
+  pub marks-stop : (k : ℕ) → fileBytes k ≤ length file → k ≤ columns * rows → allBelow k (cellMarked file) ≡ false → ended (from-cell 0) ≡ 10
+  unfolding allBelow
+  marks-stop zero there few off = absurd (true≢false off)
+  marks-stop (suc k) there few off =
+      ⊎-elim
+      (λ all. ap ended (marks-skip k (omega (arith, next-place k)) (omega arith) all) ∙ stops file k there room columns rows wide (omega arith) (sym (ap (λ (t : Bool). t && cellMarked file k) all) ∙ off))
+      (λ some. marks-stop k (omega (arith, next-place k)) (omega arith) some) (tested (allBelow k (cellMarked file)))
+
+-- a record whose bytes run out: 10 where its mark is wrong, else 11
+module _ (room columns rows k : ℕ) (wide : 0 < columns) (more : k < columns * rows) where
+  abbrev tail-number : List ℕ → ℕ
+  tail-number bytes = cond (eqb (markNumber bytes 0) 10) 10 11
+
+  is-10 : (bytes : List ℕ) → markNumber bytes 0 ≡ 10 → 10 ≡ tail-number bytes
+  is-10 bytes e = sym (ap (λ (n : ℕ). cond (eqb n 10) 10 11) e)
+
+  is-11 : (bytes : List ℕ) (n : ℕ) → markNumber bytes 0 ≡ n → eqb n 10 ≡ false → 11 ≡ tail-number bytes
+  is-11 bytes n e f = sym (ap (λ (m : ℕ). cond (eqb m 10) 10 11) e ∙ ap (λ (t : Bool). cond t 10 11) f)
+
+  abbrev ends : List ℕ → ℕ
+  ends bytes = ended (taken room (between columns rows k) bytes)
+
+  tail-marked : (a b : ℕ) (rest : List ℕ) → suc (suc (length rest)) < cellBytes → marked 0 a ≡ true → ends (a ∷ b ∷ rest) ≡ tail-number (a ∷ b ∷ rest)
+  unfolding begun taken
+  tail-marked a b rest few e =
+      let first = ap (λ (s : State). ended (taken room s (b ∷ rest))) (at-more room columns rows k wide more [] a e (omega arith)) in
+      ⊎-elim
+      (λ f. first ∙ ap (λ (s : State). ended (taken room s rest)) (at-more room columns rows k wide more (a ∷ []) b f (omega arith)) ∙ ap ended (part-taken room columns rows k wide more (a ∷ b ∷ []) rest (omega arith) (omega arith)) ∙ runs-out room columns rows k wide more (a ∷ b ∷ rest) ∙ is-11 (a ∷ b ∷ rest) 0 (mark-right (a ∷ b ∷ rest) 0 (omega arith) e f) refl)
+      (λ f. first ∙ wrong-mark room columns rows k wide more (a ∷ []) rest b f ∙ is-10 (a ∷ b ∷ rest) (mark-second (a ∷ b ∷ rest) 0 (omega arith) e f))
+      (tested (marked 1 b))
+
+  tail-begun : (a : ℕ) (rest : List ℕ) → suc (length rest) < cellBytes → marked 0 a ≡ true → ends (a ∷ rest) ≡ tail-number (a ∷ rest)
+  unfolding begun taken
+  tail-begun a [] few e =
+      ap ended (at-more room columns rows k wide more [] a e (omega arith)) ∙ runs-out room columns rows k wide more (a ∷ [])
+      ∙ is-11 (a ∷ []) 11 (mark-one (a ∷ []) 0 (omega arith) e (omega arith)) refl
+  tail-begun a (b ∷ rest) few e = tail-marked a b rest few e
+
+  tail-ends : (bytes : List ℕ) → length bytes < cellBytes → ends bytes ≡ tail-number bytes
+  unfolding begun taken
+  tail-ends [] few = runs-out room columns rows k wide more [] ∙ is-11 [] 11 (mark-none [] 0 (omega arith)) refl
+  tail-ends (a ∷ rest) few =
+      ⊎-elim (λ e. tail-begun a rest few e)
+      (λ e. wrong-mark room columns rows k wide more [] rest a e ∙ is-10 (a ∷ rest) (mark-first (a ∷ rest) 0 (omega arith) e))
+      (tested (marked 0 a))
+
+-- a mark by its place in the file
+module _ (file : List ℕ) (p : ℕ) where
+  there-place : (i j : ℕ) → p + i ≡ j → ltb i (length (drop p file)) ≡ ltb j (length file)
+  there-place i j e =
+      let left = length-drop p file in
+      same (ltb i (length (drop p file))) (ltb j (length file)) (λ t. lt-ltb j (length file) (omega (arith, left, ltb-true i (length (drop p file)) t))) (λ t. lt-ltb i (length (drop p file)) (omega (arith, left, ltb-true j (length file) t)))
+
+  byte-place : (i j : ℕ) → p + i ≡ j → getD (drop p file) i 0 ≡ getD file j 0
+  byte-place i j e = getD-drop p file i 0 ∙ ap (λ (n : ℕ). getD file n 0) e
+
+  mark-place : markNumber (drop p file) 0 ≡ markNumber file p
+  mark-place =
+      let here : p + 0 ≡ p = omega arith in
+      ap₂ (λ (s : Bool) (a : ℕ). refuse 11 s then refuse 10 (marked 0 a) then refuse 11 (ltb 1 (length (drop p file))) then refuse 10 (marked 1 (getD (drop p file) 1 0))) (there-place 0 p here) (byte-place 0 p here)
+      ∙ ap₂ (λ (s : Bool) (b : ℕ). refuse 11 (ltb p (length file)) then refuse 10 (marked 0 (getD file p 0)) then refuse 11 s then refuse 10 (marked 1 b)) (there-place 1 (p + 1) refl) (byte-place 1 (p + 1) refl)
+
+pub tail-at : (file : List ℕ) (room columns rows k : ℕ) (wide : 0 < columns) → k < columns * rows → length file < fileBytes (suc k) → ended (from-cell file room columns rows wide k) ≡ cond (eqb (markNumber file (fileBytes k)) 10) 10 11
+tail-at file room columns rows k wide more few =
+    let p = fileBytes k in
+    tail-ends room columns rows k wide more (drop p file) (omega (arith, next-place k, length-drop p file))
+    ∙ ap (λ (n : ℕ). cond (eqb n 10) 10 11) (mark-place file p)
+
+-- all marks hold, of as many records as are there: which number the file's end gives
+module _ (file : List ℕ) (room columns rows : ℕ) (wide : 0 < columns) where
+  pub cut-short : (k : ℕ) → k < columns * rows → fileBytes k ≤ length file → length file < fileBytes (suc k) → allBelow k (cellMarked file) ≡ true → ended (from-cell file room columns rows wide 0) ≡ cond (eqb (markNumber file (fileBytes k)) 10) 10 11
+  cut-short k more there few all =
+      ap ended (marks-skip file room columns rows wide k there (omega arith) all) ∙ tail-at file room columns rows k wide more few
+
+  module _ (there : fileBytes (columns * rows) ≤ length file) (all : allBelow (columns * rows) (cellMarked file) ≡ true) where
+    last-cell : ended (from-cell file room columns rows wide 0) ≡ ended (from-cell file room columns rows wide (columns * rows))
+    last-cell = ap ended (marks-skip file room columns rows wide (columns * rows) there (omega arith) all)
+
+    pub too-long : (length file ≡ fileBytes (columns * rows) → ⊥) → ended (from-cell file room columns rows wide 0) ≡ 11
+    too-long long =
+        let p = fileBytes (columns * rows) in
+        last-cell
+        ∙ ap (λ (bytes : List ℕ). ended (taken room (between columns rows (columns * rows)) bytes)) (drop-cons file p 0 (omega (arith, long)))
+        ∙ left-over room columns rows wide (getD file p 0) (drop (suc p) file)
+
+    pub just-long : length file ≡ fileBytes (columns * rows) → ended (from-cell file room columns rows wide 0) ≡ 0
+    unfolding taken
+    just-long just =
+        last-cell
+        ∙ ap (λ (bytes : List ℕ). ended (taken room (between columns rows (columns * rows)) bytes)) (drop-of-length-le file {i = fileBytes (columns * rows)} (omega arith))
+        ∙ all-there room columns rows wide

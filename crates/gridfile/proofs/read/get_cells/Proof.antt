@@ -1,0 +1,153 @@
+-- `gridfile::read::get_cells` meets its contract: after i turns the cells from i on are left. Assumes nothing.
+use borrow.Author.Needs.{needs}
+use mathlib.Core.Path.{_≡_, sym, ap, ap₂, subst, subst₂, _∙_}
+use Prim.Native.Nat.{ℕ, _+_, _-_, _*_, _^_, _≤_, _<_}
+use native.Mathlib.Numerals.{add-one}
+use native.Mathlib.Omega.{arith}
+use lib.IntN.{ℤ}
+use lib.ListN.{length, set}
+use denote.Ref.{now}
+use mir.Syntax.{w16}
+use mir.Val.{ofZ, toZ}
+use mir.ValLaws.{toZ-ofZ}
+use Rattle.predict.specs.declared.grid.MEStats.{MEStats}
+use Rattle.predict.specs.Grid.{Grid, gridOf}
+use Rattle.gridfile.specs.Records.{fileBytes}
+use Rattle.gridfile.specs.Reading.{withCell}
+use Rattle.gridfile.proofs.WriteLaws.{shape-most}
+use Rattle.gridfile.proofs.LeftLaws.{Left, left-all, left-there, left-next, left-none}
+use Rattle.gridfile.proofs.read.get_cells.Statement.{statement}
+use Rattle.gridfile.proofs.read.get_cells.Tie as tie
+
+abbrev Inv-loop : tie.InvT-loop
+Inv-loop file columns down rows₀ cols₀ sads₀ count i₀ rows cols sads i = Left file columns down (gridOf rows₀ cols₀ sads₀) i (gridOf rows cols sads)
+
+abbrev μ-loop : tie.MeasureT-loop
+μ-loop file columns down rows₀ cols₀ sads₀ count i₀ rows cols sads i = columns * down - i
+
+mul-count : tie.Need-mul-count Inv-loop μ-loop
+mul-count c =
+    let pre = c .before .before .pre in
+    omega (arith, shape-most (pre .0 .2) (pre .0 .3))
+
+loop-holds : tie.Need-loop-holds Inv-loop μ-loop
+loop-holds c =
+    let entry = c .before .before in
+    left-all _ _ _ (entry .pre .0 .1) _ (entry .pre .0 .4)
+
+-- the record of a turn, and the buffers' lengths
+module _ (c : tie.In-loop Inv-loop μ-loop) where
+  abbrev entry : tie.Start Inv-loop μ-loop
+  entry = c .before .before .before .before
+
+  there : fileBytes (c .before .loop .i) + 10 ≤ length (now (entry .args .file))
+  there = left-there _ _ _ (entry .pre .0 .1) _ _ _ (c .loop-test .taken) (c .before .loop .inv)
+
+  rows-there : c .before .loop .i < length (c .before .loop .rows)
+  rows-there = omega (arith, c .loop-test .taken, entry .pre .1, c .before .loop .inv .long .rows)
+
+  cols-there : c .before .loop .i < length (c .before .loop .cols)
+  cols-there = omega (arith, c .loop-test .taken, entry .pre .1, c .before .loop .inv .long .cols)
+
+  sads-there : c .before .loop .i < length (c .before .loop .sads)
+  sads-there = omega (arith, c .loop-test .taken, entry .pre .1, c .before .loop .inv .long .sads)
+
+  most : entry .args .columns * entry .args .down ≤ 2 ^ 16
+  most = shape-most (entry .pre .0 .2) (entry .pre .0 .3)
+
+mul-get-cell : tie.Need-mul-get-cell Inv-loop μ-loop
+mul-get-cell c = omega (arith, most c)
+
+add-get-cell : tie.Need-add-get-cell Inv-loop μ-loop
+add-get-cell c = omega (arith, most c)
+
+get-cell-requires : tie.Need-get-cell-requires Inv-loop μ-loop
+unfolding fileBytes
+get-cell-requires c κs = there c
+
+mul-row : tie.Need-mul-row Inv-loop μ-loop
+mul-row c = omega (arith, most (c .before .before .before))
+
+slice-set-from-row : tie.Need-slice-set-from-row Inv-loop μ-loop
+slice-set-from-row c = rows-there (c .before .before .before)
+
+mul-col : tie.Need-mul-col Inv-loop μ-loop
+mul-col c = omega (arith, most (c .before .before .before))
+
+slice-set-from-col : tie.Need-slice-set-from-col Inv-loop μ-loop
+slice-set-from-col c = cols-there (c .before .before .before)
+
+mul-sads : tie.Need-mul-sads Inv-loop μ-loop
+mul-sads c = omega (arith, most (c .before .before .before))
+
+slice-write-sads : tie.Need-slice-write-sads Inv-loop μ-loop
+slice-write-sads c = sads-there (c .before .before .before)
+
+add-i : tie.Need-add-i Inv-loop μ-loop
+add-i c = omega (arith, most (c .before .before .before))
+
+loop-less : tie.Need-loop-less Inv-loop μ-loop
+loop-less c = omega (arith, c .before .before .before .loop-test .taken)
+
+-- the cell goes to its place
+set-cell : (c : tie.After-struct-told2 Inv-loop μ-loop) → (g : Grid) (i : ℕ) → gridOf (set (g .rows) i (toZ w16 (ofZ w16 (c .before .before .get-cell .result .mv .row)))) (set (g .cols) i (toZ w16 (ofZ w16 (c .before .before .get-cell .result .mv .col)))) (set (g .sads) i (c .before .before .get-cell .result .«normalized_sad»)) ≡ withCell i (c .before .before .get-cell .result) g
+unfolding withCell
+set-cell c g i =
+    let cell = c .before .before .get-cell .result in
+    ap₂ (λ (row col : ℤ). gridOf (set (g .rows) i row) (set (g .cols) i col) (set (g .sads) i (cell .«normalized_sad»))) (toZ-ofZ w16 (cell .mv .row) (search needs)) (toZ-ofZ w16 (cell .mv .col) (search needs))
+
+loop-again : tie.Need-loop-again Inv-loop μ-loop
+unfolding fileBytes
+loop-again c =
+    let turn = c .before .before .before in
+    let at = turn .before .loop in
+    let a = entry turn .args in
+    let g = gridOf (at .rows) (at .cols) (at .sads) in
+    let lent = gridOf (now (a .rows)) (now (a .cols)) (now (a .sads)) in
+    let step = set-cell c g (at .i) ∙ ap (λ (m : MEStats). withCell (at .i) m g) (c .before .before .get-cell .ensures) in
+    let next = left-next (now (a .file)) (a .columns) (a .down) (entry turn .pre .0 .1) lent (at .i) g (turn .loop-test .taken) (at .inv) in
+    subst₂ (λ (n : ℕ) (h : Grid). Left (now (a .file)) (a .columns) (a .down) lent n h) (sym (add-one (at .i))) (sym step) next
+
+same-length : tie.Need-same-length Inv-loop μ-loop
+same-length c = c .before .loop .inv .long .rows
+
+same-length-2 : tie.Need-same-length-2 Inv-loop μ-loop
+same-length-2 c = c .before .loop .inv .long .cols
+
+same-length-3 : tie.Need-same-length-3 Inv-loop μ-loop
+same-length-3 c = c .before .loop .inv .long .sads
+
+returns : tie.Need-returns Inv-loop μ-loop
+returns c =
+    let at = c .before .loop in
+    let entry = c .before .before .before .before in
+    let done : at .i ≡ entry .args .columns * entry .args .down = omega (arith, at .inv .few) in
+    let a = entry .args in
+    let lent = gridOf (now (a .rows)) (now (a .cols)) (now (a .sads)) in
+    let now-held = gridOf (at .rows) (at .cols) (at .sads) in
+    left-none (now (a .file)) (a .columns) (a .down) (entry .pre .0 .1) lent now-held (subst (λ (n : ℕ). Left (now (a .file)) (a .columns) (a .down) lent n now-held) done (at .inv))
+
+pub get-cells-spec : {M : Type 1} → statement M
+get-cells-spec =
+    tie.close
+    (tie.spec
+    Inv-loop
+    μ-loop
+    mul-count
+    loop-holds
+    mul-get-cell
+    add-get-cell
+    get-cell-requires
+    mul-row
+    slice-set-from-row
+    mul-col
+    slice-set-from-col
+    mul-sads
+    slice-write-sads
+    add-i
+    loop-less
+    loop-again
+    same-length
+    same-length-2
+    same-length-3
+    returns)

@@ -1,0 +1,91 @@
+-- `gridfile::write::put_cells` meets its contract: after i turns the records of the first i cells stand behind the header.
+-- Assumes nothing.
+use mathlib.Core.Path.{_≡_, refl, ap, _∙_}
+use mathlib.Core.List.{List}
+use Prim.Native.Nat.{ℕ, _+_, _-_, _*_, _≤_}
+use native.Mathlib.Nat.{zero-add}
+use native.Mathlib.Numerals.{add-one}
+use native.Mathlib.Omega.{arith}
+use lib.ListN.{length}
+use lib.Seq.{sets, length-sets}
+use denote.Ref.{now}
+use Rattle.predict.specs.declared.grid.MEStats.{MEStats}
+use Rattle.predict.specs.Grid.{Grid, gridOf, statsAt}
+use Rattle.gridfile.specs.Records.{headerBytes, cellBytes, cellRecord, fileBytes}
+use Rattle.gridfile.specs.Writing.{cellRecords}
+use Rattle.gridfile.proofs.WriteLaws.{length-cells, puts-on, cells-snoc}
+use Rattle.gridfile.proofs.write.put_cells.Statement.{statement}
+use Rattle.gridfile.proofs.write.put_cells.Tie as tie
+
+abbrev Inv-loop : tie.InvT-loop
+Inv-loop count rows cols sads file₀ i₀ file i =
+    (i ≤ count) × (file ≡ sets file₀ headerBytes (cellRecords (gridOf rows cols sads) 0 i))
+
+abbrev μ-loop : tie.MeasureT-loop
+μ-loop count rows cols sads file₀ i₀ file i = count - i
+
+-- a cell's record behind those before it
+next-cell : (l : List ℕ) (g : Grid) (i : ℕ) {m n : List ℕ} {s : MEStats} → m ≡ sets l headerBytes (cellRecords g 0 i) → s ≡ statsAt g i → n ≡ sets m (headerBytes + cellBytes * i) (cellRecord s) → n ≡ sets l headerBytes (cellRecords g 0 (i + 1))
+next-cell l g i e f h =
+    rw (add-one, cells-snoc, zero-add, ← f) (puts-on l headerBytes (cellRecords g 0 i) _ e h (simp length-cells))
+
+loop-holds : tie.Need-loop-holds Inv-loop μ-loop
+unfolding cellRecords
+loop-holds c = (omega arith, refl)
+
+-- no cell changes the length
+lengths : (c : tie.At-loop Inv-loop μ-loop) → length (c .loop .file) ≡ length (now (c .before .before .before .args .file))
+lengths c = ap length (c .loop .inv .1) ∙ simp length-sets
+
+mul-put-cell : tie.Need-mul-put-cell Inv-loop μ-loop
+unfolding fileBytes
+mul-put-cell c = omega arith
+
+add-put-cell : tie.Need-add-put-cell Inv-loop μ-loop
+unfolding fileBytes
+add-put-cell c = omega arith
+
+stats-at-requires : tie.Need-stats-at-requires Inv-loop μ-loop
+stats-at-requires c κs = omega arith
+
+put-cell-requires : tie.Need-put-cell-requires Inv-loop μ-loop
+unfolding fileBytes
+put-cell-requires c κs = omega (arith, lengths (c .before .before .before))
+
+add-i : tie.Need-add-i Inv-loop μ-loop
+add-i c = omega arith
+
+loop-less : tie.Need-loop-less Inv-loop μ-loop
+loop-less c = omega arith
+
+loop-again : tie.Need-loop-again Inv-loop μ-loop
+loop-again c =
+    let stored = c .before .before in
+    let turn = stored .before .before in
+    let at = turn .before .before in
+    (omega arith, next-cell _ _ _ (at .loop .inv .1) (turn .stats-at .ensures) (stored .put-cell .ensures))
+
+same-length : tie.Need-same-length Inv-loop μ-loop
+same-length c = lengths (c .before)
+
+returns : tie.Need-returns Inv-loop μ-loop
+returns c =
+    let end : c .before .loop .i ≡ c .before .before .before .before .args .count = omega arith in
+    rw (← end) (c .before .loop .inv .1)
+
+pub put-cells-spec : {M : Type 1} → statement M
+put-cells-spec =
+    tie.close
+    (tie.spec
+    Inv-loop
+    μ-loop
+    loop-holds
+    mul-put-cell
+    add-put-cell
+    stats-at-requires
+    put-cell-requires
+    add-i
+    loop-less
+    loop-again
+    same-length
+    returns)

@@ -1,0 +1,5 @@
+-- What a reader must believe of a grid file: its records, how it is written and read, and what is promised of both together.
+pub mod Records
+pub mod Writing
+pub mod Reading
+pub mod Keeps

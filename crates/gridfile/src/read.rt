@@ -1,0 +1,173 @@
+use crate::records::get_16;
+use crate::records::get_cell;
+ghost use mathlib.Core.Path.{_≡_};
+ghost use mathlib.Core.Bool.{_&&_};
+ghost use Prim.Native.Nat.{_+_, _*_, _≤_, _<_, min};
+ghost use lib.ListN.{length, getD, take, drop};
+ghost use lib.Dec.{ltb};
+ghost use Rattle.motion.specs.Every.{allBelow};
+ghost use Rattle.predict.specs.Grid.{gridOf};
+ghost use Rattle.refusal.specs.Tests.{refuse, _then_};
+ghost use Rattle.gridfile.specs.Records.{headerBytes, fileBytes};
+ghost use Rattle.gridfile.specs.Reading.{marked, between, start, taken, kept, ended, readAnswer, readGrid};
+
+// A number of document 02, and columns and rows of cells.
+#[repr(C)]
+pub struct Shape {
+    pub code: u32,
+    pub columns: u32,
+    pub rows: u32,
+}
+
+pub fn least(a: usize, b: usize) -> usize
+    ensures { λ r. ⌜ r ≡ min a b ⌝ }
+{
+    if a < b { a } else { b }
+}
+
+// A mark of which bytes may be missing.
+fn mark_refusal(file: &[u8], at: usize) -> u32
+    requires { ⌜ at ≤ length (now file) ⌝ }
+    ensures { λ r. ⌜ r ≡ (refuse 11 (ltb at (length (now (file .entry)))) then refuse 10 (marked 0 (getD (now (file .entry)) at 0)) then refuse 11 (ltb (at + 1) (length (now (file .entry)))) then refuse 10 (marked 1 (getD (now (file .entry)) (at + 1) 0))) ⌝ }
+{
+    if file.len() <= at {
+        return 11;
+    }
+    if file[at] != 0x4C {
+        return 10;
+    }
+    if file.len() <= at + 1 {
+        return 11;
+    }
+    if file[at + 1] != 0x47 {
+        return 10;
+    }
+    0
+}
+
+// The header: numbers 10, 11, 12 and 13, from the front.
+fn header_refusal(file: &[u8], room: usize) -> u32
+    ensures { λ r. ⌜ r ≡ (taken room start (take headerBytes (now (file .entry))) .code then refuse 11 (ltb 0 (taken room start (take headerBytes (now (file .entry))) .columns))) ⌝ }
+{
+    let code = mark_refusal(file, 0);
+    if code != 0 {
+        return code;
+    }
+    if file.len() < 4 {
+        return 11;
+    }
+    let columns = file[2] as usize + 1;
+    let down = file[3] as usize + 1;
+    if columns % 2 != 0 {
+        return 12;
+    }
+    if down % 2 != 0 {
+        return 12;
+    }
+    if room < columns * down {
+        return 13;
+    }
+    0
+}
+
+// Whether the first `count` cell records, all of whose bytes are there, start with the mark.
+fn marks_hold(file: &[u8], count: usize) -> bool
+    requires { ⌜ fileBytes count ≤ length (now file) ⌝ }
+    ensures { λ r. ⌜ r ≡ allBelow count (λ i. marked 0 (getD (now (file .entry)) (fileBytes i) 0) && marked 1 (getD (now (file .entry)) (fileBytes i + 1) 0)) ⌝ }
+{
+    let mut i = 0;
+    while i < count {
+        if get_16(file, 4 + 10 * i) != 0x474C {
+            return false;
+        }
+        i += 1;
+    }
+    true
+}
+
+// The cells, and bytes left over: numbers 10 and 11, from the front.
+fn cells_refusal(file: &[u8], columns: usize, rows: usize) -> u32
+    requires { ⌜ (headerBytes ≤ length (now file)) × (0 < columns) × (columns ≤ 256) × (rows ≤ 256) ⌝ }
+    ensures { λ r. ⌜ r ≡ ended (taken 0 (between columns rows 0) (drop headerBytes (now (file .entry)))) ⌝ }
+{
+    let count = columns * rows;
+    let there = (file.len() - 4) / 10;
+    if there < count {
+        if !marks_hold(file, there) {
+            return 10;
+        }
+        if mark_refusal(file, 4 + 10 * there) == 10 {
+            return 10;
+        }
+        return 11;
+    }
+    if !marks_hold(file, count) {
+        return 10;
+    }
+    if file.len() != 4 + 10 * count {
+        return 11;
+    }
+    0
+}
+
+// The cells of a file that nothing is wrong with.
+fn get_cells(
+    file: &[u8],
+    columns: usize,
+    down: usize,
+    rows: &mut [i16],
+    cols: &mut [i16],
+    sads: &mut [u32],
+)
+    requires { ⌜ (headerBytes ≤ length (now file)) × (0 < columns) × (columns ≤ 256) × (down ≤ 256) × (ended (taken 0 (between columns down 0) (drop headerBytes (now file))) ≡ 0) ⌝ }
+    requires { ⌜ (columns * down ≤ length (now rows)) × (columns * down ≤ length (now cols)) × (columns * down ≤ length (now sads)) ⌝ }
+    ensures { λ r. ⌜ gridOf (now (rows .exit)) (now (cols .exit)) (now (sads .exit)) ≡ kept 0 (between columns down 0) (drop headerBytes (now (file .entry))) (gridOf (now (rows .entry)) (now (cols .entry)) (now (sads .entry))) ⌝ }
+{
+    let count = columns * down;
+    let mut i = 0;
+    while i < count {
+        let cell = get_cell(file, 4 + 10 * i);
+        let row = cell.mv.row;
+        let col = cell.mv.col;
+        rows[i] = row;
+        cols[i] = col;
+        sads[i] = cell.normalized_sad;
+        i += 1;
+    }
+}
+
+#[no_mangle]
+pub extern "C" fn lockdapple_grid_read(
+    file: &[u8],
+    rows: &mut [i16],
+    cols: &mut [i16],
+    sads: &mut [u32],
+) -> Shape
+    ensures { λ r. ⌜ r ≡ readAnswer (now (file .entry)) (gridOf (now (rows .entry)) (now (cols .entry)) (now (sads .entry))) ⌝ }
+    ensures { λ r. ⌜ gridOf (now (rows .exit)) (now (cols .exit)) (now (sads .exit)) ≡ readGrid (now (file .entry)) (gridOf (now (rows .entry)) (now (cols .entry)) (now (sads .entry))) ⌝ }
+{
+    let code = header_refusal(file, least(rows.len(), least(cols.len(), sads.len())));
+    if code != 0 {
+        return Shape {
+            code,
+            columns: 0,
+            rows: 0,
+        };
+    }
+    let columns = file[2] as usize + 1;
+    let down = file[3] as usize + 1;
+    let number = cells_refusal(file, columns, down);
+    if number != 0 {
+        return Shape {
+            code: number,
+            columns: 0,
+            rows: 0,
+        };
+    }
+    get_cells(file, columns, down, rows, cols, sads);
+    Shape {
+        code: 0,
+        columns: columns as u32,
+        rows: down as u32,
+    }
+}

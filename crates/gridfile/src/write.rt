@@ -1,0 +1,82 @@
+use crate::records::put_cell;
+use crate::records::put_header;
+use predict::grid::stats_at;
+use refusal::tests::grid_ok;
+use refusal::tests::side_ok;
+ghost use mathlib.Core.Path.{_≡_};
+ghost use Prim.Native.Nat.{_≤_};
+ghost use lib.ListN.{length};
+ghost use lib.Seq.{sets};
+ghost use Rattle.predict.specs.Grid.{gridOf};
+ghost use Rattle.gridfile.specs.Records.{headerBytes, fileBytes};
+ghost use Rattle.gridfile.specs.Writing.{cellRecords, writeRefusal, writeAnswer, writtenFile};
+
+// A number of document 01 or 02, and how many bytes the file has.
+#[repr(C)]
+pub struct Written {
+    pub code: u32,
+    pub bytes: u64,
+}
+
+// The tests of numbers 1, 5 and 13, in this order.
+fn write_refusal(
+    width: usize,
+    height: usize,
+    rows: &[i16],
+    cols: &[i16],
+    sads: &[u32],
+    file: &[u8],
+) -> u32
+    ensures { λ r. ⌜ r ≡ writeRefusal width height (gridOf (now (rows .entry)) (now (cols .entry)) (now (sads .entry))) (now (file .entry)) ⌝ }
+{
+    if !side_ok(width) {
+        return 1;
+    }
+    if !side_ok(height) {
+        return 1;
+    }
+    if !grid_ok(width, height, rows.len(), cols.len(), sads.len()) {
+        return 5;
+    }
+    if file.len() < 4 + 10 * ((width / 4) * (height / 4)) {
+        return 13;
+    }
+    0
+}
+
+// The records of the first `count` cells, behind the header.
+fn put_cells(count: usize, rows: &[i16], cols: &[i16], sads: &[u32], file: &mut [u8])
+    requires { ⌜ (count ≤ length (now rows)) × (count ≤ length (now cols)) × (count ≤ length (now sads)) × (fileBytes count ≤ length (now file)) ⌝ }
+    ensures { λ r. ⌜ now (file .exit) ≡ sets (now (file .entry)) headerBytes (cellRecords (gridOf (now (rows .entry)) (now (cols .entry)) (now (sads .entry))) 0 count) ⌝ }
+{
+    let mut i = 0;
+    while i < count {
+        put_cell(4 + 10 * i, stats_at(rows, cols, sads, i), file);
+        i += 1;
+    }
+}
+
+#[no_mangle]
+pub extern "C" fn lockdapple_grid_write(
+    width: usize,
+    height: usize,
+    rows: &[i16],
+    cols: &[i16],
+    sads: &[u32],
+    file: &mut [u8],
+) -> Written
+    ensures { λ r. ⌜ r ≡ writeAnswer width height (gridOf (now (rows .entry)) (now (cols .entry)) (now (sads .entry))) (now (file .entry)) ⌝ }
+    ensures { λ r. ⌜ now (file .exit) ≡ writtenFile width height (gridOf (now (rows .entry)) (now (cols .entry)) (now (sads .entry))) (now (file .entry)) ⌝ }
+{
+    let code = write_refusal(width, height, rows, cols, sads, &*file);
+    if code != 0 {
+        return Written { code, bytes: 0 };
+    }
+    let count = (width / 4) * (height / 4);
+    put_header(width / 4, height / 4, file);
+    put_cells(count, rows, cols, sads, file);
+    Written {
+        code: 0,
+        bytes: (4 + 10 * count) as u64,
+    }
+}
