@@ -18,7 +18,7 @@ use Rattle.refusal.specs.Tests.{refuse, _then_}
 use Rattle.gridfile.specs.Records.{mark, cellBytes, numberOf, fileBytes}
 use Rattle.gridfile.specs.Reading.{State, between, begun, marked, taken, ended}
 use Rattle.gridfile.proofs.WriteLaws.{two-bytes}
-use Rattle.gridfile.proofs.TakenLaws.{taken-append, first-byte, second-byte, first-right, second-right, at, at-more, part-taken, record-taken}
+use Rattle.gridfile.proofs.TakenLaws.{taken-append, first-byte, second-byte, first-right, second-right, at-more, part-taken, record-taken}
 use Rattle.gridfile.proofs.AcceptedLaws.{runs-out, wrong-mark, left-over, all-there}
 use Rattle.gridfile.proofs.HeaderLaws.{markNumber, mark-none, mark-first, mark-one, mark-second, mark-right}
 

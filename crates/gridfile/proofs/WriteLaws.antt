@@ -2,8 +2,8 @@
 -- Assumes nothing.
 use mathlib.Core.Path.{_≡_, refl, sym, ap, ap₂, _∙_}
 use mathlib.Core.List.{List, [], _∷_, _++_, append-assoc, append-nil}
-use Prim.Native.Nat.{ℕ, zero, suc, _+_, _*_, _/_, _^_, _≤_, _<_}
-use native.Mathlib.Nat.{add-zero, zero-add, add-suc, suc-add, add-assoc, mul-le-mul, div-div-eq-div-mul}
+use Prim.Native.Nat.{ℕ, zero, suc, _+_, _*_, _/_, _%_, _^_, _≤_, _<_}
+use native.Mathlib.Nat.{add-zero, zero-add, add-suc, suc-add, add-assoc, mul-assoc, mul-le-mul}
 use native.Mathlib.Numerals.{add-one, add-two}
 use native.Mathlib.Omega.{arith}
 use borrow.Author.Tests.{leb-true}
@@ -21,7 +21,7 @@ use Rattle.refusal.proofs.RefusalLaws.{first-passed, passes, side-of, held}
 use Rattle.gridfile.specs.Records.{bytesOf, numberOf, headerBytes, headerRecord, cellBytes, cellRecord, fileBytes}
 use Rattle.gridfile.specs.Writing.{cellRecords, fileOf, writeRefusal}
 
-pub length-bytes : (count n : ℕ) → length (bytesOf count n) ≡ count
+length-bytes : (count n : ℕ) → length (bytesOf count n) ≡ count
 unfolding bytesOf
 length-bytes zero n = refl
 length-bytes (suc count) n = ap suc (length-bytes count _)
@@ -43,9 +43,11 @@ sets-append l i (x ∷ xs) ys = rw (add-suc, ← suc-add) (sets-append (set l i 
 pub puts-on : (l : List ℕ) (i : ℕ) (xs ys : List ℕ) {m n : List ℕ} {k : ℕ} → m ≡ sets l i xs → n ≡ sets m k ys → i + length xs ≡ k → n ≡ sets l i (xs ++ ys)
 puts-on l i xs ys e f at = f ∙ ap₂ (λ (m : List ℕ) (k : ℕ). sets m k ys) e (sym at) ∙ sym (sets-append l i xs ys)
 
-pub bytes-four : (n : ℕ) → bytesOf 4 n ≡ bytesOf 2 n ++ bytesOf 2 (n / 65536)
+-- a 16-bit number's bytes are put in front of another's
+pub bytes-behind : (count n m : ℕ) → n < 2 ^ 16 → bytesOf (suc (suc count)) (n + 65536 * m) ≡ bytesOf 2 n ++ bytesOf count m
 unfolding bytesOf
-bytes-four n = simp div-div-eq-div-mul
+bytes-behind count n m h =
+    ap₂ _∷_ (omega arith) (ap₂ _∷_ (omega arith) (ap (bytesOf count) (omega arith)))
 
 -- the records of one cell more
 pub cells-snoc : (g : Grid) (i n : ℕ) → cellRecords g i (suc n) ≡ cellRecords g i n ++ cellRecord (statsAt g (i + n))
@@ -86,6 +88,12 @@ shape-most {columns} {rows} wide high = mul-le-mul {n₁ = columns} {m₁ = rows
 
 pub cells-most : {width height : ℕ} → width ≤ largestSide → height ≤ largestSide → (width / cellSide) * (height / cellSide) ≤ 2 ^ 16
 cells-most wide high = shape-most (omega arith) (omega arith)
+
+-- and an even number of them
+pub cells-even : {width : ℕ} (height : ℕ) → Side width → ((width / cellSide) * (height / cellSide)) % 2 ≡ 0
+cells-even {width} height s =
+    let pairs : width / cellSide ≡ 2 * (width / 8) = omega (arith, s .whole) in
+    rw (pairs, mul-assoc) (omega arith)
 
 -- what a write that is not refused may count on
 pub record Writes (width height : ℕ) (g : Grid) (file : List ℕ) : Type 0 where

@@ -27,20 +27,19 @@ fn signed_of(bits: u32) -> i16
     }
 }
 
-fn put_16(at: usize, number: u32, file: &mut [u8])
-    requires { ⌜ at + 2 ≤ length (now file) ⌝ }
-    ensures { λ r. ⌜ now (file .exit) ≡ sets (now (file .entry)) at (bytesOf 2 number) ⌝ }
+// Eight bytes, of which a compiler makes one store.
+fn put_64(at: usize, number: u64, file: &mut [u8])
+    requires { ⌜ at + 8 ≤ length (now file) ⌝ }
+    ensures { λ r. ⌜ now (file .exit) ≡ sets (now (file .entry)) at (bytesOf 8 number) ⌝ }
 {
     file[at] = (number % 256) as u8;
     file[at + 1] = (number / 256 % 256) as u8;
-}
-
-fn put_32(at: usize, number: u32, file: &mut [u8])
-    requires { ⌜ at + 4 ≤ length (now file) ⌝ }
-    ensures { λ r. ⌜ now (file .exit) ≡ sets (now (file .entry)) at (bytesOf 4 number) ⌝ }
-{
-    put_16(at, number, file);
-    put_16(at + 2, number / 65536, file);
+    file[at + 2] = (number / 65536 % 256) as u8;
+    file[at + 3] = (number / 16777216 % 256) as u8;
+    file[at + 4] = (number / 4294967296 % 256) as u8;
+    file[at + 5] = (number / 1099511627776 % 256) as u8;
+    file[at + 6] = (number / 281474976710656 % 256) as u8;
+    file[at + 7] = (number / 72057594037927936 % 256) as u8;
 }
 
 // The mark that every record starts with.
@@ -66,10 +65,11 @@ pub(crate) fn put_cell(at: usize, cell: MEStats, file: &mut [u8])
     requires { ⌜ at + 10 ≤ length (now file) ⌝ }
     ensures { λ r. ⌜ now (file .exit) ≡ sets (now (file .entry)) at (cellRecord cell) ⌝ }
 {
+    let row = bits_of(cell.mv.row) as u64;
+    let col = bits_of(cell.mv.col) as u64;
+    let sad = cell.normalized_sad as u64;
     put_mark(at, file);
-    put_16(at + 2, bits_of(cell.mv.row), file);
-    put_16(at + 4, bits_of(cell.mv.col), file);
-    put_32(at + 6, cell.normalized_sad, file);
+    put_64(at + 2, row + 65536 * (col + 65536 * sad), file);
 }
 
 pub fn get_16(file: &[u8], at: usize) -> u32

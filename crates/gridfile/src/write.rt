@@ -4,7 +4,7 @@ use predict::grid::stats_at;
 use refusal::tests::grid_ok;
 use refusal::tests::side_ok;
 ghost use mathlib.Core.Path.{_≡_};
-ghost use Prim.Native.Nat.{_≤_};
+ghost use Prim.Native.Nat.{_%_, _≤_};
 ghost use lib.ListN.{length};
 ghost use lib.Seq.{sets};
 ghost use Rattle.predict.specs.Grid.{gridOf};
@@ -44,15 +44,16 @@ fn write_refusal(
     0
 }
 
-// The records of the first `count` cells, behind the header.
+// The records of the first `count` cells, behind the header, two a turn.
 fn put_cells(count: usize, rows: &[i16], cols: &[i16], sads: &[u32], file: &mut [u8])
-    requires { ⌜ (count ≤ length (now rows)) × (count ≤ length (now cols)) × (count ≤ length (now sads)) × (fileBytes count ≤ length (now file)) ⌝ }
+    requires { ⌜ (count ≤ length (now rows)) × (count ≤ length (now cols)) × (count ≤ length (now sads)) × (fileBytes count ≤ length (now file)) × (count % 2 ≡ 0) ⌝ }
     ensures { λ r. ⌜ now (file .exit) ≡ sets (now (file .entry)) headerBytes (cellRecords (gridOf (now (rows .entry)) (now (cols .entry)) (now (sads .entry))) 0 count) ⌝ }
 {
     let mut i = 0;
     while i < count {
         put_cell(4 + 10 * i, stats_at(rows, cols, sads, i), file);
-        i += 1;
+        put_cell(4 + 10 * (i + 1), stats_at(rows, cols, sads, i + 1), file);
+        i += 2;
     }
 }
 

@@ -10,7 +10,7 @@ use Rattle.motion.specs.Limits.{cellSide}
 use Rattle.predict.specs.Grid.{Grid, gridOf, cells}
 use Rattle.gridfile.specs.Records.{fileBytes}
 use Rattle.gridfile.specs.Writing.{writeRefusal, writtenOf, writeAnswer, writtenFile}
-use Rattle.gridfile.proofs.WriteLaws.{cells-most, Writes, writes, file-put}
+use Rattle.gridfile.proofs.WriteLaws.{cells-most, cells-even, Writes, writes, file-put}
 use Rattle.gridfile.proofs.write.lockdapple_grid_write.Statement.{statement}
 use Rattle.gridfile.proofs.write.lockdapple_grid_write.Tie as tie
 
@@ -49,7 +49,9 @@ put-header-requires c κs = omega (arith, sound (c .before))
 
 put-cells-requires : tie.Need-put-cells-requires
 unfolding cells fileBytes
-put-cells-requires c κs = omega (arith, sound (c .before .before .before .before .before))
+put-cells-requires c κs =
+    let passed = c .before .before .before .before .before in
+    omega (arith, sound passed, cells-even (start passed .args .height) (sound passed .wide))
 
 mul-t13 : tie.Need-mul-t13
 mul-t13 c = omega (arith, few (c .before .before .before .before .before .before .before .before))

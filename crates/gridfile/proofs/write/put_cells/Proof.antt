@@ -1,9 +1,9 @@
--- `gridfile::write::put_cells` meets its contract: after i turns the records of the first i cells stand behind the header.
+-- `gridfile::write::put_cells` meets its contract: after i / 2 turns the records of the first i cells stand behind the header.
 -- Assumes nothing.
 use mathlib.Core.Path.{_≡_, refl, ap, _∙_}
 use mathlib.Core.List.{List}
-use Prim.Native.Nat.{ℕ, _+_, _-_, _*_, _≤_}
-use native.Mathlib.Nat.{zero-add}
+use Prim.Native.Nat.{ℕ, _+_, _-_, _*_, _%_, _≤_}
+use native.Mathlib.Nat.{zero-add, add-assoc}
 use native.Mathlib.Numerals.{add-one}
 use native.Mathlib.Omega.{arith}
 use lib.ListN.{length}
@@ -19,7 +19,7 @@ use Rattle.gridfile.proofs.write.put_cells.Tie as tie
 
 abbrev Inv-loop : tie.InvT-loop
 Inv-loop count rows cols sads file₀ i₀ file i =
-    (i ≤ count) × (file ≡ sets file₀ headerBytes (cellRecords (gridOf rows cols sads) 0 i))
+    (i ≤ count) × (i % 2 ≡ 0) × (file ≡ sets file₀ headerBytes (cellRecords (gridOf rows cols sads) 0 i))
 
 abbrev μ-loop : tie.MeasureT-loop
 μ-loop count rows cols sads file₀ i₀ file i = count - i
@@ -31,11 +31,11 @@ next-cell l g i e f h =
 
 loop-holds : tie.Need-loop-holds Inv-loop μ-loop
 unfolding cellRecords
-loop-holds c = (omega arith, refl)
+loop-holds c = (omega arith, refl, refl)
 
 -- no cell changes the length
 lengths : (c : tie.At-loop Inv-loop μ-loop) → length (c .loop .file) ≡ length (now (c .before .before .before .args .file))
-lengths c = ap length (c .loop .inv .1) ∙ simp length-sets
+lengths c = ap length (c .loop .inv .2) ∙ simp length-sets
 
 mul-put-cell : tie.Need-mul-put-cell Inv-loop μ-loop
 unfolding fileBytes
@@ -52,6 +52,30 @@ put-cell-requires : tie.Need-put-cell-requires Inv-loop μ-loop
 unfolding fileBytes
 put-cell-requires c κs = omega (arith, lengths (c .before .before .before))
 
+add-put-cell-2 : tie.Need-add-put-cell-2 Inv-loop μ-loop
+unfolding fileBytes
+add-put-cell-2 c = omega arith
+
+mul-put-cell-2 : tie.Need-mul-put-cell-2 Inv-loop μ-loop
+unfolding fileBytes
+mul-put-cell-2 c = omega arith
+
+add-put-cell-3 : tie.Need-add-put-cell-3 Inv-loop μ-loop
+unfolding fileBytes
+add-put-cell-3 c = omega arith
+
+add-stats-at : tie.Need-add-stats-at Inv-loop μ-loop
+add-stats-at c = omega arith
+
+stats-at-requires-2 : tie.Need-stats-at-requires-2 Inv-loop μ-loop
+stats-at-requires-2 c κs = omega arith
+
+put-cell-requires-2 : tie.Need-put-cell-requires-2 Inv-loop μ-loop
+unfolding fileBytes
+put-cell-requires-2 c κs =
+    let stored = c .before .before .before .before in
+    rw (stored .put-cell .ensures, length-sets) (omega (arith, lengths (stored .before .before .before .before)))
+
 add-i : tie.Need-add-i Inv-loop μ-loop
 add-i c = omega arith
 
@@ -60,10 +84,13 @@ loop-less c = omega arith
 
 loop-again : tie.Need-loop-again Inv-loop μ-loop
 loop-again c =
-    let stored = c .before .before in
-    let turn = stored .before .before in
-    let at = turn .before .before in
-    (omega arith, next-cell _ _ _ (at .loop .inv .1) (turn .stats-at .ensures) (stored .put-cell .ensures))
+    let second = c .before .before in
+    let turn = second .before .before in
+    let first = turn .before .before .before in
+    let at = first .before .before .before .before in
+    let one = next-cell _ _ _ (at .loop .inv .2) (first .before .before .stats-at .ensures) (first .put-cell .ensures) in
+    let two = next-cell _ _ _ one (turn .stats-at2 .ensures) (second .put-cell2 .ensures) in
+    (omega arith, omega arith, rw add-assoc at two)
 
 same-length : tie.Need-same-length Inv-loop μ-loop
 same-length c = lengths (c .before)
@@ -71,7 +98,7 @@ same-length c = lengths (c .before)
 returns : tie.Need-returns Inv-loop μ-loop
 returns c =
     let end : c .before .loop .i ≡ c .before .before .before .before .args .count = omega arith in
-    rw (← end) (c .before .loop .inv .1)
+    rw (← end) (c .before .loop .inv .2)
 
 pub put-cells-spec : {M : Type 1} → statement M
 put-cells-spec =
@@ -84,6 +111,12 @@ put-cells-spec =
     add-put-cell
     stats-at-requires
     put-cell-requires
+    add-put-cell-2
+    mul-put-cell-2
+    add-put-cell-3
+    add-stats-at
+    stats-at-requires-2
+    put-cell-requires-2
     add-i
     loop-less
     loop-again
