@@ -1,14 +1,15 @@
 /* The entry points of Lockdapple, for C and C++ on x86-64.
  *
- * Link the static library that `rt staticlib inter` writes and, for the two
- * functions of grid files at the end, the one that `rt staticlib gridfile`
- * writes; a program can link either alone, or both. No function asks anything
- * of its caller: whatever numbers and buffers come, it ends, reads only what it
- * was lent, and answers or refuses; a step, a run and the reading of a file
- * write to the grid that they are lent, the writing of a file to the bytes that
- * it is lent, and nowhere else. A slice is a pointer and a count of elements;
- * with a count of 0 the pointer may be anything but null. A buffer that is
- * written must not overlap another.
+ * Link the static library that `rt staticlib inter` writes; for the two
+ * functions of grid files, the one that `rt staticlib gridfile` writes; for the
+ * three of a link's reader at the end, the one that `rt staticlib reader`
+ * writes. A program can link any of them. No function asks anything of its
+ * caller: whatever numbers and buffers come, it ends, reads only what it was
+ * lent, and answers or refuses; a step, a run and the reading of a file write
+ * to the grid that they are lent, the writing of a file to the bytes that it is
+ * lent, and nowhere else. A slice is a pointer and a count of elements; with a
+ * count of 0 the pointer may be anything but null. A buffer that is written
+ * must not overlap another.
  *
  * Frame: width and height are multiples of 8, from 8 to 1,024.
  * Level: 4, 3 or 2, with blocks of 64, 32 or 16 pixels, shift s = 2, 1 or 0,
@@ -31,7 +32,8 @@
  *
  * Refusals (the lowest that applies, but for the reading of a file, where the
  * first from the file's front counts; with 0 in every other field; after one
- * every cell of the grid and every byte of the file stays as it was):
+ * every cell of the grid and every byte of the file stays as it was; a link's
+ * reader alone keeps its shape, and the cells taken in before):
  *   0  done
  *   1  width or height outside the rule above
  *   2  level not 2, 3 or 4; for a refinement, not 2 or 3
@@ -218,6 +220,49 @@ struct lockdapple_written lockdapple_grid_write(size_t width, size_t height, con
  * run out or are left over. */
 struct lockdapple_shape lockdapple_grid_read(const uint8_t *file, size_t file_len, int16_t *rows, size_t rows_len,
                                              int16_t *cols, size_t cols_len, uint32_t *sads, size_t sads_len);
+
+/* A grid file that comes in fragments of any lengths, empty ones too. However
+ * it is cut, the states and the cells are those of one fragment, if each call
+ * is lent the same grid:
+ *
+ *     struct lockdapple_reader reader = lockdapple_reader_new();
+ *     while ((length = receive(link, fragment, sizeof fragment)) > 0)
+ *         reader = lockdapple_reader_take(reader, fragment, length, rows, cells,
+ *                                         cols, cells, sads, cells);
+ *     reader = lockdapple_reader_end(reader);
+ *     if (reader.code != 0)
+ *         fprintf(stderr, "refused %u after %u cells\n", reader.code, reader.cells);
+ *     else
+ *         printf("%u by %u cells\n", reader.columns, reader.rows);
+ */
+
+/* The state between two calls: the refusal so far (0 for none), the columns and
+ * rows that the header said (0 before it ended), how many whole good cell
+ * records were taken in, and how many bytes of the next record, with these
+ * bytes; what is not in use holds 0. */
+struct lockdapple_reader {
+    uint32_t code;
+    uint32_t columns;
+    uint32_t rows;
+    uint32_t cells;
+    uint32_t held;
+    uint8_t part[16];
+    uint32_t spare;
+};
+
+/* A reader that has taken in nothing. */
+struct lockdapple_reader lockdapple_reader_new(void);
+
+/* The next state, with the cells of the fragment in the grid. Refuses with 10,
+ * 12 and 13 as lockdapple_grid_read does, with 13 at a later call too if the
+ * grid is too short for what the header said, and with 11 for a byte left over.
+ * Cells taken in before a refusal stay, and further calls change nothing. */
+struct lockdapple_reader lockdapple_reader_take(struct lockdapple_reader reader, const uint8_t *fragment,
+                                                size_t fragment_len, int16_t *rows, size_t rows_len, int16_t *cols,
+                                                size_t cols_len, uint32_t *sads, size_t sads_len);
+
+/* The state at the file's end: 11 where bytes are missing, else as it was. */
+struct lockdapple_reader lockdapple_reader_end(struct lockdapple_reader reader);
 
 #ifdef __cplusplus
 }

@@ -1,5 +1,5 @@
 /* Keeps the grid that a run leaves on a flat frame of 8 by 8 pixels: the file is printed in hex, a record a line, and read
- * back. One refusal of each call goes before. */
+ * back, whole and byte by byte. One refusal of each call goes before. */
 #include "lockdapple.h"
 
 #include <stdio.h>
@@ -23,6 +23,17 @@ static void print_records(const uint8_t *file, size_t bytes) {
     for (i = 0; i < bytes; i++) printf("%02X%c", file[i], i % 10 == 3 ? '\n' : ' ');
 }
 
+/* The file as a link hands it over, a byte and then nothing in turn; `bytes` of it before the end. */
+static struct lockdapple_reader read_slowly(const uint8_t *file, size_t bytes, int16_t *rows, int16_t *cols, uint32_t *sads) {
+    struct lockdapple_reader reader = lockdapple_reader_new();
+    size_t i;
+    for (i = 0; i < bytes; i++) {
+        reader = lockdapple_reader_take(reader, file + i, 1, rows, 5, cols, 5, sads, 5);
+        reader = lockdapple_reader_take(reader, file, 0, rows, 5, cols, 5, sads, 5);
+    }
+    return lockdapple_reader_end(reader);
+}
+
 int main(void) {
     int16_t rows[4] = {0, 0, 0, 0}, cols[4] = {0, 0, 0, 0};
     uint32_t sads[4] = {0, 0, 0, 0};
@@ -33,6 +44,7 @@ int main(void) {
     const uint16_t list = 0;
     struct lockdapple_written written;
     struct lockdapple_shape shape;
+    struct lockdapple_reader reader;
 
     memset(flat, 90, sizeof flat);
     memset(file, 7, sizeof file);
@@ -53,6 +65,14 @@ int main(void) {
                memcmp(back_sads, sads, sizeof sads) == 0,
            "the grid that is read");
     expect(back_rows[4] == 7 && back_cols[4] == 7 && back_sads[4] == 7, "a cell past the file's");
+
+    memset(back_rows, 0, sizeof back_rows);
+    reader = read_slowly(file, 43, back_rows, back_cols, back_sads);
+    expect(reader.code == 11 && reader.cells == 3 && reader.held == 0 && back_rows[2] == rows[2] && back_rows[3] == 0,
+           "a byte too few from the link");
+    reader = read_slowly(file, 44, back_rows, back_cols, back_sads);
+    expect(reader.code == 0 && reader.columns == 2 && reader.rows == 2 && reader.cells == 4, "reading from the link");
+    expect(memcmp(back_rows, rows, sizeof rows) == 0, "the grid from the link");
 
     print_records(file, 44);
     return wrong;

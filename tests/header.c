@@ -34,6 +34,11 @@ HOLDS(offsetof(struct lockdapple_written, bytes) == 8);
 HOLDS(sizeof(struct lockdapple_shape) == 12);
 HOLDS(offsetof(struct lockdapple_shape, columns) == 4);
 HOLDS(offsetof(struct lockdapple_shape, rows) == 8);
+HOLDS(sizeof(struct lockdapple_reader) == 40);
+HOLDS(offsetof(struct lockdapple_reader, cells) == 12);
+HOLDS(offsetof(struct lockdapple_reader, held) == 16);
+HOLDS(offsetof(struct lockdapple_reader, part) == 20);
+HOLDS(offsetof(struct lockdapple_reader, spare) == 36);
 
 /* The quarter, half and full plane of a frame of 8 by 8: 2 + 40, 4 + 80 and 8 + 96 samples a side. */
 static uint8_t flat[104 * 104];

@@ -1,0 +1,160 @@
+-- Laws of the cells that a file leaves: each holds its record, as soon as the last byte of that has come. Assumes nothing.
+use mathlib.Core.Path.{_≡_, refl, sym, ap, subst, _∙_}
+use mathlib.Core.Bool.{cond}
+use mathlib.Core.Logic.{⊎-elim}
+use mathlib.Core.List.{List, [], _∷_, _++_, append-nil, append-assoc}
+use Prim.Native.Nat.{ℕ, suc, _+_, _*_, _≤_, _<_}
+use native.Mathlib.Nat.{eq-zero-or-pos, eq-or-lt-of-le}
+use native.Mathlib.Omega.{arith}
+use borrow.Author.Tests.{lt-ltb, le-ltb}
+use lib.Dec.{ltb}
+use lib.ListN.{length, drop, length-append, length-drop, drop-of-length-le}
+use lib.Seq.{slice, take-all, take-append-le, drop-append-le}
+use Rattle.predict.specs.declared.grid.MEStats.{MEStats}
+use Rattle.predict.specs.Grid.{Grid, statsAt}
+use Rattle.gridfile.specs.Records.{headerBytes, cellBytes, cellOf, fileBytes}
+use Rattle.gridfile.specs.Reading.{State, start, refusedAt, begun, headerEnd, headerDone, cellDone, next, taken, withCell, keep, kept, room}
+use Rattle.gridfile.specs.Keeps.{OfBytes}
+use Rattle.gridfile.proofs.PlaceLaws.{next-place}
+use Rattle.gridfile.proofs.KeptLaws.{same-room, cell-here, cell-other, kept-lengths}
+use Rattle.reader.specs.Calls.{Fits}
+use Rattle.reader.proofs.HeldLaws.{header-next, cell-next, Sound, next-by, bytes-next, sound-next}
+use Rattle.reader.proofs.CallLaws.{fits-next}
+
+-- where reading stands after a file's front: the record begun is its end, and the cells taken in hold their records
+pub record Read (space : ℕ) (front : List ℕ) (s : State) (g : Grid) : Type 0 where
+  pub none : s .columns ≡ 0 → s .cells ≡ 0
+  pub few : s .cells ≤ space
+  pub header : s .code ≡ 0 → s .columns ≡ 0 → s .part ≡ front
+  pub later : s .code ≡ 0 → 0 < s .columns → s .part ≡ drop (fileBytes (s .cells)) front
+  pub there : 0 < s .columns → fileBytes (s .cells) ≤ length front
+  pub inside : (i : ℕ) → i < s .cells → statsAt g i ≡ cellOf (slice (fileBytes i) (fileBytes (suc i)) front)
+
+pub read-start : (g : Grid) → Read (room g) [] start g
+read-start g =
+    record {
+      none = λ e. refl;
+      few = omega arith;
+      header = λ z e. refl;
+      later = λ z wide. absurd (omega arith);
+      there = λ wide. absurd (omega arith);
+      inside = λ i below. absurd (omega arith);
+    }
+
+-- a front that grows keeps its records
+slice-front : (xs ys : List ℕ) (f t : ℕ) → t ≤ length xs → slice f t (xs ++ ys) ≡ slice f t xs
+slice-front xs ys f t h = ap (drop f) (take-append-le t xs ys h)
+
+-- so the records of all cells are there
+pub read-there : {space : ℕ} {front : List ℕ} {s : State} {g : Grid} → Read space front s g → 0 < s .cells → fileBytes (s .cells) ≤ length front
+read-there {s = s} now some = ⊎-elim (λ z. absurd (omega (arith, now .none z))) (now .there) (eq-zero-or-pos (s .columns))
+
+-- one byte more
+module _ (space : ℕ) (front : List ℕ) (s : State) (byte : ℕ) (g : Grid) (ok : Sound s) (fits : Fits space s) (long : room g ≡ space) (now : Read space front s g) where
+  abbrev more : List ℕ
+  more = front ++ byte ∷ []
+
+  more-long : length more ≡ length front + 1
+  more-long = length-append front (byte ∷ [])
+
+  -- a state after the byte, and the grid that goes with it
+  abbrev After : State → Type 0
+  After t = Read space more t (cond (ltb (s .cells) (t .cells)) (withCell (s .cells) (cellOf (s .part ++ byte ∷ [])) g) g)
+
+  older : (i : ℕ) → i < s .cells → statsAt g i ≡ cellOf (slice (fileBytes i) (fileBytes (suc i)) more)
+  unfolding fileBytes
+  older i below =
+      let inside : fileBytes (suc i) ≤ length front = omega (arith, read-there now (omega arith)) in
+      now .inside i below ∙ ap cellOf (sym (slice-front front (byte ∷ []) (fileBytes i) (fileBytes (suc i)) inside))
+
+  more-there : 0 < s .columns → fileBytes (s .cells) ≤ length more
+  more-there wide = omega (arith, more-long, now .there wide)
+
+  -- the state stays refused, or is now
+  stays : (s .code ≡ 0 → ⊥) → After s
+  stays some =
+      rw (le-ltb (s .cells) (s .cells) (omega arith))
+      (record { none = now .none; few = now .few; header = λ z. absurd (some z); later = λ z. absurd (some z); there = more-there; inside = older })
+
+  refused : (n : ℕ) → After (refusedAt s (suc n))
+  unfolding refusedAt
+  refused n =
+      rw (le-ltb (s .cells) (s .cells) (omega arith))
+      (record { none = now .none; few = now .few; header = λ z. absurd (omega arith); later = λ z. absurd (omega arith); there = more-there; inside = older })
+
+  -- the record has one byte more
+  begins : After (begun s (s .part ++ byte ∷ []))
+  unfolding begun
+  begins =
+      rw (le-ltb (s .cells) (s .cells) (omega arith))
+      (record {
+        none = now .none;
+        few = now .few;
+        header = λ z first. ap (λ (l : List ℕ). l ++ byte ∷ []) (now .header z first);
+        later = λ z wide. ap (λ (l : List ℕ). l ++ byte ∷ []) (now .later z wide) ∙ sym (drop-append-le (fileBytes (s .cells)) front (byte ∷ []) (now .there wide));
+        there = more-there;
+        inside = older;
+      })
+
+  -- the header's last byte has come
+  header-ends : s .code ≡ 0 → s .columns ≡ 0 → headerBytes ≤ suc (length (s .part)) → After (headerDone space (s .part ++ byte ∷ []))
+  unfolding headerDone headerEnd fileBytes
+  header-ends e first full =
+      let four : length more ≡ headerBytes = omega (arith, more-long, ap length (now .header e first), ok .begun e, header-next (s .columns) first) in
+      rw (le-ltb (s .cells) 0 (omega arith))
+      (record {
+        none = λ z. refl;
+        few = omega arith;
+        header = λ z none. absurd (omega arith);
+        later = λ z wide. sym (drop-of-length-le more {i = headerBytes} (omega arith));
+        there = λ wide. omega arith;
+        inside = λ i below. absurd (omega arith);
+      })
+
+  -- and a cell's
+  module _ (e : s .code ≡ 0) (wide : 0 < s .columns) (left : s .cells < s .columns * s .rows) (full : cellBytes ≤ suc (length (s .part))) where
+    abbrev cell : MEStats
+    cell = cellOf (s .part ++ byte ∷ [])
+
+    ten : length more ≡ fileBytes (suc (s .cells))
+    ten = omega (arith, more-long, ap length (now .later e wide), length-drop (fileBytes (s .cells)) front, now .there wide, ok .begun e, cell-next (s .columns) wide, next-place (s .cells))
+
+    its-record : s .part ++ byte ∷ [] ≡ slice (fileBytes (s .cells)) (fileBytes (suc (s .cells))) more
+    its-record =
+        ap (λ (l : List ℕ). l ++ byte ∷ []) (now .later e wide) ∙ sym (drop-append-le (fileBytes (s .cells)) front (byte ∷ []) (now .there wide))
+        ∙ ap (drop (fileBytes (s .cells))) (sym (take-all (fileBytes (suc (s .cells))) more (omega (arith, ten))))
+
+    cells-now : (i : ℕ) → i < suc (s .cells) → statsAt (withCell (s .cells) cell g) i ≡ cellOf (slice (fileBytes i) (fileBytes (suc i)) more)
+    cells-now i below =
+        let upto : i ≤ s .cells = omega arith in
+        let here = cell-here (s .cells) cell g (omega (arith, long, left, fits e wide)) ∙ ap cellOf its-record in
+        ⊎-elim (λ same. subst (λ (j : ℕ). statsAt (withCell (s .cells) cell g) j ≡ cellOf (slice (fileBytes j) (fileBytes (suc j)) more)) (sym same) here)
+        (λ less. cell-other (s .cells) cell g i (λ same. absurd (omega arith)) ∙ older i less)
+        (eq-or-lt-of-le upto)
+
+    cell-ends : After (cellDone s)
+    unfolding cellDone
+    cell-ends =
+        rw (lt-ltb (s .cells) (suc (s .cells)) (omega arith))
+        (record {
+          none = λ z. absurd (omega arith);
+          few = omega (arith, fits e wide);
+          header = λ z none. absurd (omega arith);
+          later = λ z wide. sym (drop-of-length-le more {i = fileBytes (suc (s .cells))} (omega (arith, ten)));
+          there = λ wide. omega (arith, ten);
+          inside = cells-now;
+        })
+
+  read-next : Read space more (next space s byte) (keep space s byte g)
+  unfolding keep
+  read-next = next-by After space s byte (λ e n. refused n) (λ e left. begins) stays header-ends cell-ends
+
+-- and all of them
+pub read-taken : (space : ℕ) (bytes front : List ℕ) (s : State) (g : Grid) → Sound s → OfBytes (s .part) → OfBytes bytes → Fits space s → room g ≡ space → Read space front s g → Read space (front ++ bytes) (taken space s bytes) (kept space s bytes g)
+unfolding taken kept
+read-taken space [] front s g ok part ofBytes fits long now = subst (λ (l : List ℕ). Read space l s g) (sym (append-nil front)) now
+read-taken space (b ∷ bytes) front s g ok part ofBytes fits long now =
+    let t = next space s b in
+    let h = keep space s b g in
+    subst (λ (l : List ℕ). Read space l (taken space t bytes) (kept space t bytes h)) (append-assoc front (b ∷ []) bytes)
+    (read-taken space bytes (front ++ b ∷ []) t h (sound-next space s b part (ofBytes 0) ok) (bytes-next space s b part (ofBytes 0)) (λ k. ofBytes (suc k)) (fits-next space s b fits) (same-room (kept-lengths space s (b ∷ []) g) ∙ long) (read-next space front s b g ok fits long now))

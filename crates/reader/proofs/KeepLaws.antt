@@ -1,0 +1,65 @@
+-- Laws of the cell that a byte completes. Assumes nothing.
+use mathlib.Core.Path.{_≡_, sym, ap, _∙_}
+use mathlib.Core.List.{List, [], _∷_, _++_}
+use Prim.Native.Nat.{ℕ, suc, _*_, _≤_, _<_}
+use native.Mathlib.Omega.{arith}
+use borrow.Author.Tests.{lt-ltb, le-ltb}
+use lib.ListN.{length, take, set}
+use lib.Seq.{slice, take-suc-set}
+use Rattle.predict.specs.Grid.{Grid}
+use Rattle.gridfile.specs.Records.{cellBytes, cellOf}
+use Rattle.gridfile.specs.Reading.{State, refusedAt, begun, headerDone, headerEnd, cellDone, next, withCell, keep}
+use Rattle.gridfile.proofs.TakenLaws.{past-mark, byte-last}
+use Rattle.reader.specs.declared.reader.Reader.{Reader}
+use Rattle.reader.specs.Held.{partBytes, stateOf}
+use Rattle.reader.proofs.HeldLaws.{next-by}
+use Rattle.reader.proofs.OpenLaws.{Open, number-stays, some-bytes}
+use Rattle.reader.proofs.ByteLaws.{bytes, held-state, cell-next}
+
+-- most bytes complete none
+module _ (space : ℕ) (s : State) (b : ℕ) (g : Grid) (none : s .code ≡ 0 → 0 < s .columns → s .cells < s .columns * s .rows → cellBytes ≤ suc (length (s .part)) → ⊥) where
+  no-more : next space s b .cells ≤ s .cells
+  unfolding refusedAt begun headerDone headerEnd cellDone
+  no-more =
+      next-by (λ (t : State). t .cells ≤ s .cells) space s b (λ e n. omega arith) (λ e left. omega arith) (λ some. omega arith) (λ e first full. omega arith) (λ e wide more full. absurd (none e wide more full))
+
+  pub keeps-none : keep space s b g ≡ g
+  unfolding keep
+  keeps-none = rw (le-ltb (s .cells) (next space s b .cells) no-more)
+
+module _ (space : ℕ) (r : Reader) (b : ℕ) (g : Grid) where
+  pub keeps-refused : (r .code ≡ 0 → ⊥) → keep space (stateOf r) b g ≡ g
+  keeps-refused some = keeps-none space (stateOf r) b g (λ e wide more full. some (sym (number-stays r some) ∙ e))
+
+  module _ (o : Open r) where
+    by-held : keep space (held-state r o) b g ≡ g → keep space (stateOf r) b g ≡ g
+    by-held e = ap (λ (s : State). keep space s b g) (o .state) ∙ e
+
+    pub keeps-fewer : (r .held ≡ 9 → ⊥) → keep space (stateOf r) b g ≡ g
+    unfolding begun
+    keeps-fewer fewer =
+        by-held (keeps-none space (held-state r o) b g (λ e wide more full. fewer (omega (arith, o .few, o .long, full, some-bytes (r .columns)))))
+
+    pub keeps-over : r .columns * r .rows ≤ r .cells → keep space (stateOf r) b g ≡ g
+    unfolding begun
+    keeps-over all = by-held (keeps-none space (held-state r o) b g (λ e wide more full. absurd (omega (arith, more))))
+
+-- the tenth of a cell's record completes it
+module _ (space : ℕ) (r : Reader) (o : Open r) (b : ℕ) (g : Grid) (read : 0 < r .columns) (more : r .cells < r .columns * r .rows) (full : r .held ≡ 9) where
+  completed : next space (held-state r o) b ≡ cellDone (held-state r o)
+  unfolding begun
+  completed =
+      ap (λ (s : State). next space s b) (sym (o .state)) ∙ cell-next r o space b read more
+      ∙ byte-last cellBytes (cellDone (held-state r o)) (held-state r o) b (past-mark (length (bytes r o)) b (omega (arith, o .long))) (omega (arith, o .long))
+
+  kept-held : keep space (held-state r o) b g ≡ withCell (r .cells) (cellOf (bytes r o ++ b ∷ [])) g
+  unfolding keep begun cellDone
+  kept-held = rw completed (rw (lt-ltb (r .cells) (suc (r .cells)) (omega arith)))
+
+  record-bytes : length (r .part) ≡ partBytes → bytes r o ++ b ∷ [] ≡ slice 0 cellBytes (set (r .part) 9 b)
+  record-bytes sixteen = ap (λ (n : ℕ). take n (r .part) ++ b ∷ []) full ∙ sym (take-suc-set (r .part) 9 b (omega arith))
+
+  pub keeps-cell : length (r .part) ≡ partBytes → keep space (stateOf r) b g ≡ withCell (r .cells) (cellOf (slice 0 cellBytes (set (r .part) 9 b))) g
+  keeps-cell sixteen =
+      ap (λ (s : State). keep space s b g) (o .state) ∙ kept-held
+      ∙ ap (λ (l : List ℕ). withCell (r .cells) (cellOf l) g) (record-bytes sixteen)

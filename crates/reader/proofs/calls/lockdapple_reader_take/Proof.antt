@@ -1,0 +1,124 @@
+-- `reader::calls::lockdapple_reader_take` meets its contract: a refusal stays, 13 for a grid too short, else the fragment is
+-- taken in. Assumes nothing.
+use borrow.Author.Needs.{needs}
+use mathlib.Core.Path.{_≡_, sym, ap, subst, _∙_}
+use Prim.Native.Nat.{ℕ, _*_, _≤_, min}
+use native.Mathlib.Omega.{arith}
+use lib.ListN.{length}
+use denote.Ref.{now}
+use Rattle.predict.specs.Grid.{Grid, gridOf}
+use Rattle.gridfile.specs.Reading.{taken, kept, room}
+use Rattle.reader.specs.declared.reader.Reader.{Reader}
+use Rattle.reader.specs.Held.{readerOf, stateOf}
+use Rattle.reader.specs.Calls.{Fits}
+use Rattle.reader.proofs.OpenLaws.{Open, opened}
+use Rattle.reader.proofs.AnswerLaws.{first-settled, take-refused, take-short, first-fits, take-done}
+use Rattle.reader.proofs.calls.lockdapple_reader_take.Statement.{statement}
+use Rattle.reader.proofs.calls.lockdapple_reader_take.Tie as tie
+
+-- the reader settled, and the lent grid
+module _ (c : tie.After-settled) where
+  abbrev entry : tie.Start
+  entry = c .before .before .before
+
+  abbrev lent : Grid
+  lent = gridOf (now (entry .args .rows)) (now (entry .args .cols)) (now (entry .args .sads))
+
+  abbrev first : Reader
+  first = c .settled .result
+
+settled-requires : tie.Need-settled-requires
+settled-requires c κs = search needs
+
+returns : tie.Need-returns
+returns c =
+    let called = c .before .before in
+    take-refused (entry called .args .reader) (first called) (called .settled .ensures) (c .if1 .taken) (now (entry called .args .fragment)) (lent called)
+
+least-requires : tie.Need-least-requires
+least-requires c κs = search needs
+
+least-requires-2 : tie.Need-least-requires-2
+least-requires-2 c κs = search needs
+
+open-here : (c : tie.Else1) → Open (first (c .before .before))
+open-here c =
+    let called = c .before .before in
+    opened (first called) (first-settled (entry called .args .reader) (first called) (called .settled .ensures)) (c .if1 .left)
+
+count-of-requires : tie.Need-count-of-requires
+count-of-requires c κs =
+    let here = open-here (c .before .before) in
+    (here .wide, here .high)
+
+-- the shortest buffer
+space-is : (c : tie.After-least2) → c .least2 .result ≡ room (lent (c .before .before .before .before))
+unfolding room
+space-is c =
+    c .least2 .ensures ∙ ap (min (length (now (entry (c .before .before .before .before) .args .rows)))) (c .before .least .ensures)
+
+between-requires : tie.Need-between-requires
+between-requires c κs = search needs
+
+returns-2 : tie.Need-returns-2
+returns-2 c =
+    let counted = c .before .before in
+    let none = counted .before .before .before in
+    let called = none .before .before in
+    let answer = take-short (entry called .args .reader) (first called) (called .settled .ensures) (none .if1 .left) (now (entry called .args .fragment)) (lent called) (omega (arith, counted .count-of .ensures, space-is (counted .before), c .before .if2 .taken)) in
+    (c .between .ensures ∙ answer .0, answer .1)
+
+-- the grid holds what the header said
+holds : (c : tie.Else2) → first (c .before .before .before .before .before .before) .columns * first (c .before .before .before .before .before .before) .rows ≤ room (lent (c .before .before .before .before .before .before))
+holds c = omega (arith, c .before .count-of .ensures, space-is (c .before .before), c .if2 .left)
+
+take-bytes-requires : tie.Need-take-bytes-requires
+take-bytes-requires c κs =
+    let long = c .before .before .before in
+    let none = long .before .before .before .before in
+    let called = none .before .before in
+    let space = space-is (long .before .before) in
+    let fits = first-fits (entry called .args .reader) (first called) (called .settled .ensures) (none .if1 .left) (lent called) (holds long) in (
+      first-settled (entry called .args .reader) (first called) (called .settled .ensures),
+      subst (λ (n : ℕ). Fits n (stateOf (first called))) (sym space) fits,
+      space,
+    )
+
+same-length : tie.Need-same-length
+same-length c = search needs
+
+same-length-2 : tie.Need-same-length-2
+same-length-2 c = search needs
+
+same-length-3 : tie.Need-same-length-3
+same-length-3 c = search needs
+
+returns-3 : tie.Need-returns-3
+returns-3 c =
+    let done = c .before .before .before .before in
+    let long = done .before .before .before .before in
+    let none = long .before .before .before .before in
+    let called = none .before .before in
+    let space = space-is (long .before .before) in
+    let fragment = now (entry called .args .fragment) in
+    let answer = take-done (entry called .args .reader) (first called) (called .settled .ensures) (none .if1 .left) (lent called) (holds long) fragment in (
+      done .take-bytes .ensures .0 ∙ ap (λ (n : ℕ). readerOf (taken n (stateOf (first called)) fragment)) space ∙ answer .0,
+      done .take-bytes .ensures .1 ∙ ap (λ (n : ℕ). kept n (stateOf (first called)) fragment (lent called)) space ∙ answer .1,
+    )
+
+pub lockdapple-reader-take-spec : {M : Type 1} → statement M
+lockdapple-reader-take-spec =
+    tie.close
+    (tie.spec
+    settled-requires
+    returns
+    least-requires
+    least-requires-2
+    count-of-requires
+    between-requires
+    returns-2
+    take-bytes-requires
+    same-length
+    same-length-2
+    same-length-3
+    returns-3)

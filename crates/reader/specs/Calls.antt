@@ -1,0 +1,42 @@
+-- What each call answers.
+use mathlib.Core.Path.{_≡_}
+use Prim.Native.Nat.{ℕ, _*_, _≤_, _<_}
+use mathlib.Core.Bool.{Bool, not, _&&_, cond}
+use mathlib.Core.List.{List}
+use lib.Dec.{leb, eqb}
+use Rattle.predict.specs.Grid.{Grid}
+use Rattle.gridfile.specs.Reading.{State, start, refusedAt, taken, kept, room, ended}
+use Rattle.reader.specs.declared.reader.Reader.{Reader}
+use Rattle.reader.specs.Held.{readerOf, stateOf}
+
+-- a grid long enough for what the header said
+abbrev pub Fits : ℕ → State → Type 0
+Fits space s = s .code ≡ 0 → 0 < s .columns → s .columns * s .rows ≤ space
+
+-- 13: the grid lent is too short for what the header said, at a call after it
+unfoldable pub tooShort : State → Grid → Bool
+tooShort s g = eqb (s .code) 0 && (not (eqb (s .columns) 0) && not (leb (s .columns * s .rows) (room g)))
+
+-- a fragment goes on where the state stands: the next state, and the grid with the cells that were taken in
+unfoldable pub takenFrom : State → List ℕ → Grid → State
+takenFrom s fragment g = cond (tooShort s g) (refusedAt s 13) (taken (room g) s fragment)
+
+unfoldable pub keptFrom : State → List ℕ → Grid → Grid
+keptFrom s fragment g = cond (tooShort s g) g (kept (room g) s fragment g)
+
+-- at the end, 11 for a file too short
+unfoldable pub endedFrom : State → State
+endedFrom s = cond (eqb (ended s) 0) s (refusedAt s (ended s))
+
+-- a new reader, one that takes a fragment, and one at the file's end
+unfoldable pub newReader : Reader
+newReader = readerOf start
+
+unfoldable pub takeReader : Reader → List ℕ → Grid → Reader
+takeReader r fragment g = readerOf (takenFrom (stateOf r) fragment g)
+
+unfoldable pub takeGrid : Reader → List ℕ → Grid → Grid
+takeGrid r fragment g = keptFrom (stateOf r) fragment g
+
+unfoldable pub endReader : Reader → Reader
+endReader r = readerOf (endedFrom (stateOf r))

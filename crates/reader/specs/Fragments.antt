@@ -1,0 +1,59 @@
+-- However a file is cut, the cells, the final state and the number are those of one fragment.
+use mathlib.Core.Path.{_≡_}
+use mathlib.Core.List.{List, [], _∷_, _++_}
+use Prim.Native.Nat.{ℕ, suc, _≤_, _<_}
+use lib.ListN.{length}
+use lib.Seq.{slice}
+use Rattle.predict.specs.Grid.{Grid, statsAt}
+use Rattle.gridfile.specs.Records.{cellOf, fileBytes}
+use Rattle.gridfile.specs.Keeps.{OfBytes}
+use Rattle.gridfile.specs.Reading.{room, readRefusal, readAnswer, readGrid}
+use Rattle.reader.specs.declared.reader.Reader.{Reader}
+use Rattle.reader.specs.Calls.{newReader, takeReader, takeGrid, endReader}
+
+-- a call for each fragment, in turn: the last state, and the grid
+unfoldable pub takeAll : Reader → List (List ℕ) → Grid → Reader
+takeAll r [] g = r
+takeAll r (f ∷ fs) g = takeAll (takeReader r f g) fs (takeGrid r f g)
+
+unfoldable pub gridAll : Reader → List (List ℕ) → Grid → Grid
+gridAll r [] g = g
+gridAll r (f ∷ fs) g = gridAll (takeReader r f g) fs (takeGrid r f g)
+
+-- the fragments behind one another
+unfoldable pub joined : List (List ℕ) → List ℕ
+joined [] = []
+joined (f ∷ fs) = f ++ joined fs
+
+-- from any state, for every list of fragments, empty ones among them: one call or more are one call
+abbrev pub AnyCuts : Type 0
+AnyCuts =
+    (r : Reader) (f : List ℕ) (fs : List (List ℕ)) (g : Grid) → OfBytes (r .part) → OfBytes (joined (f ∷ fs)) → (takeAll r (f ∷ fs) g ≡ takeReader r (joined (f ∷ fs)) g) × (gridAll r (f ∷ fs) g ≡ takeGrid r (joined (f ∷ fs)) g)
+
+-- after a refusal further calls change nothing and repeat its number
+pub record Stays (r : Reader) : Type 0 where
+  pub take : (f : List ℕ) (g : Grid) → takeReader r f g ≡ r
+  pub grid : (f : List ℕ) (g : Grid) → takeGrid r f g ≡ g
+  pub end : endReader r ≡ r
+
+abbrev pub RefusalStays : Type 0
+RefusalStays =
+    ((r : Reader) (f : List ℕ) (g : Grid) → (takeReader r f g .code ≡ 0 → ⊥) → Stays (takeReader r f g)) × ((r : Reader) → (endReader r .code ≡ 0 → ⊥) → Stays (endReader r))
+
+-- a whole file and the end call: the number is that of reading in one piece; where it is 0, so are the shape and the grid
+pub record AsOne (file : List ℕ) (g : Grid) : Type 0 where
+  pub number : endReader (takeReader newReader file g) .code ≡ readRefusal file g
+  pub columns : readRefusal file g ≡ 0 → endReader (takeReader newReader file g) .columns ≡ readAnswer file g .columns
+  pub rows : readRefusal file g ≡ 0 → endReader (takeReader newReader file g) .rows ≡ readAnswer file g .rows
+  pub grid : readRefusal file g ≡ 0 → takeGrid newReader file g ≡ readGrid file g
+
+-- and of any file: the cells taken in are those of the records that were counted, and no other cell is written
+pub record GoodOnes (file : List ℕ) (g : Grid) (count : ℕ) (h : Grid) : Type 0 where
+  pub some : count ≤ room g
+  pub there : 0 < count → fileBytes count ≤ length file
+  pub inside : (i : ℕ) → i < count → statsAt h i ≡ cellOf (slice (fileBytes i) (fileBytes (suc i)) file)
+  pub past : (i : ℕ) → count ≤ i → statsAt h i ≡ statsAt g i
+
+abbrev pub WholeFile : Type 0
+WholeFile =
+    (file : List ℕ) (g : Grid) → OfBytes file → AsOne file g × GoodOnes file g (takeReader newReader file g .cells) (takeGrid newReader file g)
