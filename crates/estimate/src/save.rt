@@ -1,5 +1,6 @@
 use predict::grid::MEStats;
 use predict::grid::cell_at;
+use predict::grid::save_cell;
 ghost use mathlib.Core.Path.{_≡_};
 ghost use Prim.Native.Nat.{_+_, _/_, _≤_, _<_, min};
 ghost use lib.ListN.{length, set};
@@ -26,18 +27,6 @@ fn set_four_sads(i: usize, sad: u32, sads: &mut [u32])
     sads[i + 1] = sad;
     sads[i + 2] = sad;
     sads[i + 3] = sad;
-}
-
-// One result in one cell.
-fn save_cell(i: usize, stats: MEStats, rows: &mut [i16], cols: &mut [i16], sads: &mut [u32])
-    requires { ⌜ (i < length (now rows)) × (i < length (now cols)) × (i < length (now sads)) ⌝ }
-    ensures { λ r. ⌜ gridOf (now (rows .exit)) (now (cols .exit)) (now (sads .exit)) ≡ gridOf (set (now (rows .entry)) i (stats .mv .row)) (set (now (cols .entry)) i (stats .mv .col)) (set (now (sads .entry)) i (stats .«normalized_sad»)) ⌝ }
-{
-    let row = stats.mv.row;
-    let col = stats.mv.col;
-    rows[i] = row;
-    cols[i] = col;
-    sads[i] = stats.normalized_sad;
 }
 
 // One result over at most three cells. No loop: the compiler would widen it, at a cost to every row.

@@ -10,11 +10,11 @@ use borrow.Author.Tests.{le-leb, eq-eqb}
 use lib.Dec.{eqb}
 use lib.ListN.{drop}
 use Rattle.predict.specs.declared.grid.MEStats.{MEStats}
-use Rattle.predict.specs.Grid.{Grid, statsAt}
+use Rattle.predict.specs.Grid.{Grid, statsAt, withCell}
 use Rattle.refusal.specs.Tests.{refuse, _then_}
 use Rattle.gridfile.specs.Records.{headerRecord, cellRecord, FitsCell}
 use Rattle.gridfile.specs.Writing.{cellRecords, fileOf}
-use Rattle.gridfile.specs.Reading.{State, between, start, marked, headerEnd, taken, withCell, kept, room, ended, readRefusal, shapeOf, readAnswer, readGrid}
+use Rattle.gridfile.specs.Reading.{State, between, start, marked, headerEnd, taken, kept, room, ended, readRefusal, shapeOf, readAnswer, readGrid}
 use Rattle.gridfile.specs.Keeps.{FitsCells, SameCells, SamePast}
 use Rattle.gridfile.proofs.WriteLaws.{length-cell}
 use Rattle.gridfile.proofs.RecordLaws.{cell-back}

@@ -12,9 +12,9 @@ use lib.IntN.{pos}
 use lib.ListN.{length, length-set}
 use lib.Seq.{getD-set-same, getD-set-other}
 use Rattle.predict.specs.declared.grid.MEStats.{MEStats}
-use Rattle.predict.specs.Grid.{Grid, storedAt, statsAt}
+use Rattle.predict.specs.Grid.{Grid, storedAt, statsAt, withCell}
 use Rattle.gridfile.specs.Records.{cellOf}
-use Rattle.gridfile.specs.Reading.{State, start, refusedAt, begun, marked, headerEnd, headerDone, cellDone, recordByte, next, taken, withCell, keep, kept, room, readRefusal, readGrid}
+use Rattle.gridfile.specs.Reading.{State, start, refusedAt, begun, marked, headerEnd, headerDone, cellDone, recordByte, next, taken, keep, kept, room, readRefusal, readGrid}
 
 -- buffers as long as another grid's
 pub record SameLengths (h g : Grid) : Type 0 where

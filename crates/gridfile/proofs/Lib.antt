@@ -5,6 +5,7 @@ pub mod TakenLaws
 pub mod AcceptedLaws
 pub mod HeaderLaws
 pub mod OpenedLaws
+pub mod MarkLaws
 pub mod PlaceLaws
 pub mod KeptLaws
 pub mod LeftLaws

@@ -8,38 +8,21 @@ use Prim.Native.Nat.{ℕ, zero, suc, _+_, _*_, _≤_, _<_}
 use native.Mathlib.Omega.{arith}
 use borrow.Author.Tests.{ltb-true, lt-ltb}
 use lib.Dec.{ltb, eqb}
-use lib.ListN.{length, getD, take, drop, length-drop, take-append-drop, drop-of-length-le}
-use lib.Seq.{slice, drop-cons, drop-drop, length-take-le, getD-drop}
-use mir.Syntax.{w8}
-use mir.Val.{Fits}
+use lib.ListN.{length, getD, drop, length-drop, drop-of-length-le}
+use lib.Seq.{drop-cons, getD-drop}
 use Rattle.motion.specs.Every.{allBelow}
-use Rattle.motion.proofs.TestLaws.{tested, both, same, not-so}
+use Rattle.motion.proofs.TestLaws.{tested, both, same}
 use Rattle.refusal.specs.Tests.{refuse, _then_}
-use Rattle.gridfile.specs.Records.{mark, cellBytes, numberOf, fileBytes}
+use Rattle.gridfile.specs.Records.{mark, cellBytes, fileBytes}
 use Rattle.gridfile.specs.Reading.{State, between, begun, marked, taken, ended}
-use Rattle.gridfile.proofs.WriteLaws.{two-bytes}
-use Rattle.gridfile.proofs.TakenLaws.{taken-append, first-byte, second-byte, first-right, second-right, at-more, part-taken, record-taken}
+use Rattle.gridfile.proofs.TakenLaws.{taken-append, at-more, part-taken, record-taken}
+use Rattle.gridfile.proofs.MarkLaws.{markedAt, eight, behind, eight-long, two-eight, record-at}
 use Rattle.gridfile.proofs.AcceptedLaws.{runs-out, wrong-mark, left-over, all-there}
 use Rattle.gridfile.proofs.HeaderLaws.{markNumber, mark-none, mark-first, mark-one, mark-second, mark-right}
 
 -- whether the record of a cell starts with the mark
 abbrev pub cellMarked : List ℕ → ℕ → Bool
-cellMarked file i = marked 0 (getD file (fileBytes i) 0) && marked 1 (getD file (fileBytes i + 1) 0)
-
--- both bytes at once
-module _ (file : List ℕ) (k n : ℕ) (fits : (i : ℕ) → Fits w8 (getD file i 0)) (there : fileBytes k + 2 ≤ length file) (e : n ≡ numberOf (slice (fileBytes k) (fileBytes k + 2) file)) where
-  pub mark-holds : n ≡ 0x474C → cellMarked file k ≡ true
-  mark-holds h =
-      let sum = two-bytes file (fileBytes k) there in
-      let first = fits (fileBytes k) in
-      let second = fits (fileBytes k + 1) in
-      ap₂ _&&_ (first-right _ (omega (arith, e, sum, first, second))) (second-right _ (omega (arith, e, sum, first, second)))
-
-  pub mark-fails : (n ≡ 0x474C → ⊥) → cellMarked file k ≡ false
-  mark-fails h =
-      not-so (cellMarked file k) (λ ok.
-      let halves = both (marked 0 (getD file (fileBytes k) 0)) (marked 1 (getD file (fileBytes k + 1) 0)) ok in
-      h (omega (arith, e, two-bytes file (fileBytes k) there, first-byte _ (halves .0), second-byte _ (halves .1))))
+cellMarked file i = markedAt file (fileBytes i)
 
 pub next-place : (k : ℕ) → fileBytes (suc k) ≡ fileBytes k + 10
 unfolding fileBytes
@@ -47,54 +30,42 @@ next-place k = omega arith
 
 -- a record all of whose bytes are there
 module _ (file : List ℕ) (k : ℕ) (there : fileBytes (suc k) ≤ length file) where
-  abbrev eight : List ℕ
-  eight = take 8 (drop (suc (suc (fileBytes k))) file)
+  abbrev p : ℕ
+  p = fileBytes k
 
-  eight-long : length eight ≡ 8
-  eight-long =
-      length-take-le 8 (drop (suc (suc (fileBytes k))) file) (omega (arith, next-place k, length-drop (suc (suc (fileBytes k))) file))
+  ten : p + cellBytes ≤ length file
+  ten = omega (arith, next-place k)
 
-  two-eight : drop (fileBytes k) file ≡ getD file (fileBytes k) 0 ∷ getD file (fileBytes k + 1) 0 ∷ (eight ++ drop (fileBytes (suc k)) file)
-  two-eight =
-      let p = fileBytes k in
-      let behind : suc (suc p) + 8 ≡ fileBytes (suc k) = omega (arith, next-place k) in
-      let one : suc p ≡ p + 1 = omega arith in
-      drop-cons file p 0 (omega (arith, next-place k))
-      ∙ ap (λ (bytes : List ℕ). getD file p 0 ∷ bytes) (drop-cons file (suc p) 0 (omega (arith, next-place k)))
-      ∙ ap₂ (λ (b : ℕ) (bytes : List ℕ). getD file p 0 ∷ b ∷ bytes) (ap (λ (n : ℕ). getD file n 0) one) (sym (take-append-drop 8 (drop (suc (suc p)) file)) ∙ ap (λ (bytes : List ℕ). eight ++ bytes) (drop-drop 8 (suc (suc p)) file ∙ ap (λ (n : ℕ). drop n file) behind))
-
-  pub record-at : cellMarked file k ≡ true → drop (fileBytes k) file ≡ (mark ++ eight) ++ drop (fileBytes (suc k)) file
-  record-at ok =
-      let halves = both (marked 0 (getD file (fileBytes k) 0)) (marked 1 (getD file (fileBytes k + 1) 0)) ok in
-      two-eight ∙ ap₂ (λ (a b : ℕ). a ∷ b ∷ (eight ++ drop (fileBytes (suc k)) file)) (first-byte _ (halves .0)) (second-byte _ (halves .1))
+  abbrev rest : List ℕ
+  rest = eight file p ten ++ behind file p ten
 
   module _ (room columns rows : ℕ) (wide : 0 < columns) (more : k < columns * rows) where
     -- it goes by where its mark holds
-    pub skips : cellMarked file k ≡ true → taken room (between columns rows k) (drop (fileBytes k) file) ≡ taken room (between columns rows (suc k)) (drop (fileBytes (suc k)) file)
+    pub skips : cellMarked file k ≡ true → taken room (between columns rows k) (drop p file) ≡ taken room (between columns rows (suc k)) (drop (fileBytes (suc k)) file)
     skips ok =
-        ap (taken room (between columns rows k)) (record-at ok) ∙ taken-append room (between columns rows k) (mark ++ eight) (drop (fileBytes (suc k)) file)
-        ∙ ap (λ (s : State). taken room s (drop (fileBytes (suc k)) file)) (record-taken room columns rows k wide more eight eight-long)
+        ap (taken room (between columns rows k)) (record-at file p ten ok)
+        ∙ taken-append room (between columns rows k) (mark ++ eight file p ten) (behind file p ten)
+        ∙ ap₂ (λ (s : State) (n : ℕ). taken room s (drop n file)) (record-taken room columns rows k wide more (eight file p ten) (eight-long file p ten)) (sym (next-place k))
 
     -- and gives 10 where it does not
-    first-off : marked 0 (getD file (fileBytes k) 0) ≡ false → ended (taken room (between columns rows k) (drop (fileBytes k) file)) ≡ 10
+    first-off : marked 0 (getD file p 0) ≡ false → ended (taken room (between columns rows k) (drop p file)) ≡ 10
     unfolding begun
     first-off off =
-        ap (λ (bytes : List ℕ). ended (taken room (between columns rows k) bytes)) two-eight
-        ∙ wrong-mark room columns rows k wide more [] (getD file (fileBytes k + 1) 0 ∷ (eight ++ drop (fileBytes (suc k)) file)) (getD file (fileBytes k) 0) off
+        ap (λ (bytes : List ℕ). ended (taken room (between columns rows k) bytes)) (two-eight file p ten)
+        ∙ wrong-mark room columns rows k wide more [] (getD file (p + 1) 0 ∷ rest) (getD file p 0) off
 
-    second-off : marked 0 (getD file (fileBytes k) 0) ≡ true → marked 1 (getD file (fileBytes k + 1) 0) ≡ false → ended (taken room (between columns rows k) (drop (fileBytes k) file)) ≡ 10
+    second-off : marked 0 (getD file p 0) ≡ true → marked 1 (getD file (p + 1) 0) ≡ false → ended (taken room (between columns rows k) (drop p file)) ≡ 10
     unfolding begun taken
     second-off ok off =
-        let a = getD file (fileBytes k) 0 in
-        let b = getD file (fileBytes k + 1) 0 in
-        let rest = eight ++ drop (fileBytes (suc k)) file in
-        ap (λ (bytes : List ℕ). ended (taken room (between columns rows k) bytes)) two-eight
+        let a = getD file p 0 in
+        let b = getD file (p + 1) 0 in
+        ap (λ (bytes : List ℕ). ended (taken room (between columns rows k) bytes)) (two-eight file p ten)
         ∙ ap (λ (s : State). ended (taken room s (b ∷ rest))) (at-more room columns rows k wide more [] a ok (omega arith))
         ∙ wrong-mark room columns rows k wide more (a ∷ []) rest b off
 
-    pub stops : cellMarked file k ≡ false → ended (taken room (between columns rows k) (drop (fileBytes k) file)) ≡ 10
+    pub stops : cellMarked file k ≡ false → ended (taken room (between columns rows k) (drop p file)) ≡ 10
     stops off =
-        ⊎-elim (λ e. second-off e (sym (ap (λ (t : Bool). t && marked 1 (getD file (fileBytes k + 1) 0)) e) ∙ off)) first-off (tested (marked 0 (getD file (fileBytes k) 0)))
+        ⊎-elim (λ e. second-off e (sym (ap (λ (t : Bool). t && marked 1 (getD file (p + 1) 0)) e) ∙ off)) first-off (tested (marked 0 (getD file p 0)))
 
 -- the first records of a file, all of whose bytes are there
 module _ (file : List ℕ) (room columns rows : ℕ) (wide : 0 < columns) where

@@ -6,10 +6,10 @@ use Prim.Native.Nat.{ℕ, zero, suc, _+_, _*_, _≤_, _<_}
 use native.Mathlib.Nat.{eq-or-lt-of-le}
 use native.Mathlib.Omega.{arith}
 use lib.ListN.{length}
-use Rattle.predict.specs.Grid.{Grid, statsAt}
+use Rattle.predict.specs.Grid.{Grid, statsAt, withCell}
 use Rattle.gridfile.specs.Records.{mark, headerRecord, cellRecord, cellOf, FitsCell}
 use Rattle.gridfile.specs.Writing.{cellRecords, fileOf}
-use Rattle.gridfile.specs.Reading.{State, between, taken, withCell, kept, room, ended, readRefusal, readGrid}
+use Rattle.gridfile.specs.Reading.{State, between, taken, kept, room, ended, readRefusal, readGrid}
 use Rattle.gridfile.specs.Keeps.{OfBytes, FitsCells}
 use Rattle.gridfile.proofs.RecordLaws.{bytes-front, bytes-back, cell-fits, cell-again}
 use Rattle.gridfile.proofs.TakenLaws.{taken-append, kept-append, record-taken, record-kept}

@@ -7,9 +7,9 @@ use native.Mathlib.Omega.{arith}
 use borrow.Author.Tests.{lt-ltb, le-ltb, le-leb, eqb-true, eq-eqb, ne-eqb}
 use lib.ListN.{length, getD, take, length-append}
 use lib.Seq.{take-suc, take-all, length-take-le}
-use Rattle.predict.specs.Grid.{Grid}
+use Rattle.predict.specs.Grid.{Grid, withCell}
 use Rattle.gridfile.specs.Records.{mark, cellBytes, cellOf}
-use Rattle.gridfile.specs.Reading.{State, between, refusedAt, begun, marked, cellDone, recordByte, next, taken, withCell, keep, kept}
+use Rattle.gridfile.specs.Reading.{State, between, refusedAt, begun, marked, cellDone, recordByte, next, taken, keep, kept}
 
 -- one fragment after another
 pub taken-append : (room : ℕ) (s : State) (xs ys : List ℕ) → taken room s (xs ++ ys) ≡ taken room (taken room s xs) ys

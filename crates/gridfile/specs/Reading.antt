@@ -3,9 +3,8 @@ use Prim.Native.Nat.{ℕ, suc, _+_, _*_, _%_, min}
 use mathlib.Core.Bool.{Bool, _&&_, _||_, cond}
 use mathlib.Core.List.{List, [], _∷_, _++_}
 use lib.Dec.{leb, ltb, eqb}
-use lib.ListN.{length, getD, set}
-use Rattle.predict.specs.declared.grid.MEStats.{MEStats}
-use Rattle.predict.specs.Grid.{Grid, gridOf}
+use lib.ListN.{length, getD}
+use Rattle.predict.specs.Grid.{Grid, withCell}
 use Rattle.refusal.specs.Tests.{refuse, _then_}
 use Rattle.gridfile.specs.declared.read.Shape.{Shape}
 use Rattle.gridfile.specs.Records.{mark, headerBytes, cellBytes, cellOf}
@@ -77,9 +76,6 @@ taken room s [] = s
 taken room s (byte ∷ bytes) = taken room (next room s byte) bytes
 
 -- a cell whose last byte has come goes to its place in raster order
-unfoldable pub withCell : ℕ → MEStats → Grid → Grid
-withCell i c g = gridOf (set (g .rows) i (c .mv .row)) (set (g .cols) i (c .mv .col)) (set (g .sads) i (c .«normalized_sad»))
-
 unfoldable pub keep : ℕ → State → ℕ → Grid → Grid
 keep room s byte g =
     cond (ltb (s .cells) (next room s byte .cells)) (withCell (s .cells) (cellOf (s .part ++ byte ∷ [])) g) g

@@ -1,5 +1,6 @@
 use crate::records::get_16;
 use crate::records::get_cell;
+use predict::grid::save_cell;
 ghost use mathlib.Core.Path.{_≡_};
 ghost use mathlib.Core.Bool.{_&&_};
 ghost use Prim.Native.Nat.{_+_, _*_, _≤_, _<_, min};
@@ -127,11 +128,7 @@ fn get_cells(
     let mut i = 0;
     while i < count {
         let cell = get_cell(file, 4 + 10 * i);
-        let row = cell.mv.row;
-        let col = cell.mv.col;
-        rows[i] = row;
-        cols[i] = col;
-        sads[i] = cell.normalized_sad;
+        save_cell(i, cell, rows, cols, sads);
         i += 1;
     }
 }

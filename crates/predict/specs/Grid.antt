@@ -2,7 +2,7 @@
 use Prim.Native.Nat.{ℕ, _+_, _*_, _/_, _≤_}
 use mathlib.Core.List.{List}
 use lib.IntN.{ℤ, pos}
-use lib.ListN.{length, getD}
+use lib.ListN.{length, getD, set}
 use Rattle.motion.specs.declared.vector.MotionVector.{MotionVector}
 use Rattle.motion.specs.Limits.{cellSide}
 use Rattle.predict.specs.declared.grid.MEStats.{MEStats}
@@ -31,6 +31,10 @@ storedAt rows cols i = record { row = getD rows i (pos 0); col = getD cols i (po
 -- what a cell holds: a vector and a normalised SAD
 unfoldable pub statsAt : Grid → ℕ → MEStats
 statsAt g i = record { mv = storedAt (g .rows) (g .cols) i; «normalized_sad» = getD (g .sads) i 0 }
+
+-- one cell that holds something new
+unfoldable pub withCell : ℕ → MEStats → Grid → Grid
+withCell i c g = gridOf (set (g .rows) i (c .mv .row)) (set (g .cols) i (c .mv .col)) (set (g .sads) i (c .«normalized_sad»))
 
 -- no buffer is shorter than a frame's cells
 pub record Held (width height : ℕ) (g : Grid) : Type 0 where

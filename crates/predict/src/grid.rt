@@ -3,7 +3,7 @@ ghost use mathlib.Core.Path.{_≡_};
 ghost use Prim.Native.Nat.{_≤_, _<_};
 ghost use lib.ListN.{length};
 ghost use Rattle.motion.specs.Limits.{largestSide};
-ghost use Rattle.predict.specs.Grid.{gridOf, cellAt, storedAt, statsAt};
+ghost use Rattle.predict.specs.Grid.{gridOf, cellAt, storedAt, statsAt, withCell};
 
 // What a cell of the grid holds.
 pub struct MEStats {
@@ -40,4 +40,16 @@ pub fn stats_at(rows: &[i16], cols: &[i16], sads: &[u32], i: usize) -> MEStats
         mv,
         normalized_sad: sads[i],
     }
+}
+
+// One result in one cell.
+pub fn save_cell(i: usize, stats: MEStats, rows: &mut [i16], cols: &mut [i16], sads: &mut [u32])
+    requires { ⌜ (i < length (now rows)) × (i < length (now cols)) × (i < length (now sads)) ⌝ }
+    ensures { λ r. ⌜ gridOf (now (rows .exit)) (now (cols .exit)) (now (sads .exit)) ≡ withCell i stats (gridOf (now (rows .entry)) (now (cols .entry)) (now (sads .entry))) ⌝ }
+{
+    let row = stats.mv.row;
+    let col = stats.mv.col;
+    rows[i] = row;
+    cols[i] = col;
+    sads[i] = stats.normalized_sad;
 }

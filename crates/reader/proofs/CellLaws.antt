@@ -11,9 +11,9 @@ use lib.Dec.{ltb}
 use lib.ListN.{length, drop, length-append, length-drop, drop-of-length-le}
 use lib.Seq.{slice, take-all, take-append-le, drop-append-le}
 use Rattle.predict.specs.declared.grid.MEStats.{MEStats}
-use Rattle.predict.specs.Grid.{Grid, statsAt}
+use Rattle.predict.specs.Grid.{Grid, statsAt, withCell}
 use Rattle.gridfile.specs.Records.{headerBytes, cellBytes, cellOf, fileBytes}
-use Rattle.gridfile.specs.Reading.{State, start, refusedAt, begun, headerEnd, headerDone, cellDone, next, taken, withCell, keep, kept, room}
+use Rattle.gridfile.specs.Reading.{State, start, refusedAt, begun, headerEnd, headerDone, cellDone, next, taken, keep, kept, room}
 use Rattle.gridfile.specs.Keeps.{OfBytes}
 use Rattle.gridfile.proofs.PlaceLaws.{next-place}
 use Rattle.gridfile.proofs.KeptLaws.{same-room, cell-here, cell-other, kept-lengths}

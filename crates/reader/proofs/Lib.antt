@@ -5,6 +5,7 @@ pub mod ByteLaws
 pub mod KeepLaws
 pub mod CallLaws
 pub mod TurnLaws
+pub mod WholeLaws
 pub mod AnswerLaws
 pub mod CellLaws
 pub mod Fragments

@@ -5,13 +5,13 @@ use mathlib.Core.List.{List, _++_}
 use mathlib.Core.Logic.{⊎-elim}
 use Prim.Native.Nat.{ℕ, suc, _-_, _≤_, _<_, min}
 use native.Mathlib.Omega.{arith}
-use borrow.Author.Tests.{eq-eqb, ne-eqb, leb-true, le-leb, lt-leb}
-use lib.Dec.{leb, eqb}
+use borrow.Author.Tests.{eqb-true, eq-eqb, ne-eqb, ltb-true, leb-true, le-leb, lt-leb}
+use lib.Dec.{leb, ltb, eqb}
 use lib.ListN.{length, take, replicate, length-take}
 use lib.Seq.{length-take-le}
 use Rattle.motion.proofs.TestLaws.{tested, both}
 use Rattle.gridfile.specs.Records.{headerBytes, cellBytes}
-use Rattle.gridfile.specs.Reading.{begun, refusedAt}
+use Rattle.gridfile.specs.Reading.{between, begun, refusedAt}
 use Rattle.reader.specs.declared.reader.Reader.{Reader}
 use Rattle.reader.specs.Held.{plain, partBytes, readerOf, recordBytes, mostCells, shaped, stateOf, Settled}
 
@@ -117,3 +117,21 @@ module _ (r : Reader) (settled : Settled r) (none : r .code ≡ 0) where
         tidy = sym (ap₂ (λ (bytes : List ℕ) (n : ℕ). bytes ++ replicate (partBytes - n) 0) whole counted) ∙ padded;
         state = stands ∙ ap (begun (plain 0 (r .columns) (r .rows) (r .cells))) whole;
       }
+
+-- at a cell's record, none of whose bytes has come
+pub record AtCell (r : Reader) : Type 0 where
+  pub none : r .code ≡ 0
+  pub wide : 0 < r .columns
+  pub state : stateOf r ≡ between (r .columns) (r .rows) (r .cells)
+
+pub at-cell : (r : Reader) → Settled r → (eqb (r .code) 0 && (ltb 0 (r .columns) && eqb (r .held) 0)) ≡ true → AtCell r
+unfolding begun
+at-cell r settled t =
+    let code = both (eqb (r .code) 0) _ t in
+    let rest = both (ltb 0 (r .columns)) _ (code .1) in
+    let none = eqb-true (r .code) 0 (code .0) in
+    record {
+      none = none;
+      wide = ltb-true 0 (r .columns) (rest .0);
+      state = opened r settled none .state ∙ ap (λ (n : ℕ). begun (plain 0 (r .columns) (r .rows) (r .cells)) (take n (r .part))) (eqb-true (r .held) 0 (rest .1));
+    }

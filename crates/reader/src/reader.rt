@@ -1,9 +1,12 @@
 use gridfile::read::least;
 ghost use mathlib.Core.Path.{_≡_};
+ghost use mathlib.Core.Bool.{_&&_};
 ghost use mathlib.Core.List.{_++_};
-ghost use Prim.Native.Nat.{_-_, _≤_};
+ghost use Prim.Native.Nat.{_*_, _-_, _%_, _≤_};
+ghost use lib.Dec.{eqb, ltb};
 ghost use lib.ListN.{take, replicate};
-ghost use Rattle.reader.specs.Held.{plain, partBytes, readerOf, recordBytes, stateOf};
+ghost use Rattle.gridfile.specs.Records.{cellBytes};
+ghost use Rattle.reader.specs.Held.{mostCells, plain, partBytes, readerOf, recordBytes, stateOf};
 
 // The state between two calls: the refusal so far, what the header said, how many cells were taken in, and the bytes of the
 // record that comes next.
@@ -54,6 +57,27 @@ fn most_held(columns: u32) -> usize
     if columns == 0 { 3 } else { 9 }
 }
 
+// Whether a cell's record comes next, none of whose bytes has come.
+pub fn at_a_cell(reader: Reader) -> bool
+    ensures { λ r. ⌜ r ≡ (eqb (reader .code) 0 && (ltb 0 (reader .columns) && eqb (reader .held) 0)) ⌝ }
+{
+    if reader.code != 0 {
+        return false;
+    }
+    if reader.columns == 0 {
+        return false;
+    }
+    reader.held == 0
+}
+
+// How many bytes complete the record begun; the header's counts as begun before its first.
+pub fn missing(reader: Reader) -> usize
+    requires { ⌜ reader .held ≤ recordBytes (reader .columns) ⌝ }
+    ensures { λ r. ⌜ r ≡ (recordBytes (reader .columns) - reader .held) % cellBytes ⌝ }
+{
+    (most_held(reader.columns) + 1 - reader.held as usize) % 10
+}
+
 // What a reader stands for: nothing but what is in use counts.
 pub fn settled(reader: Reader) -> Reader
     ensures { λ r. ⌜ r ≡ readerOf (stateOf reader) ⌝ }
@@ -81,4 +105,12 @@ pub fn settled(reader: Reader) -> Reader
         part,
         spare: 0,
     }
+}
+
+// How many cells the header said.
+pub fn count_of(reader: Reader) -> usize
+    requires { ⌜ (reader .columns ≤ mostCells) × (reader .rows ≤ mostCells) ⌝ }
+    ensures { λ r. ⌜ r ≡ reader .columns * reader .rows ⌝ }
+{
+    (reader.columns as usize) * (reader.rows as usize)
 }

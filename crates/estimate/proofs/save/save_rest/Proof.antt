@@ -3,6 +3,7 @@
 use borrow.Author.Needs.{needs}
 use mathlib.Core.Path.{refl, _∙_}
 use native.Mathlib.Omega.{arith}
+use Rattle.predict.specs.Grid.{withCell}
 use Rattle.estimate.proofs.SaveLaws.{save-begins, save-next}
 use Rattle.estimate.proofs.save.save_rest.Statement.{statement}
 use Rattle.estimate.proofs.save.save_rest.Tie as tie
@@ -26,6 +27,7 @@ same-length-3 : tie.Need-same-length-3
 same-length-3 c = search needs
 
 returns-2 : tie.Need-returns-2
+unfolding withCell
 returns-2 c =
     let one = c .before .before .before .before .before in
     one .save-cell .ensures ∙ save-next (omega arith) (c .if2 .taken) _ _ (save-begins refl _ _)
@@ -49,6 +51,7 @@ same-length-6 : tie.Need-same-length-6
 same-length-6 c = search needs
 
 returns-3 : tie.Need-returns-3
+unfolding withCell
 returns-3 c =
     let two = c .before .before .before .before .before in
     let one = two .before .before .before .before .before .before .before .before .before in
@@ -71,6 +74,7 @@ same-length-9 : tie.Need-same-length-9
 same-length-9 c = search needs
 
 returns-4 : tie.Need-returns-4
+unfolding withCell
 returns-4 c =
     let three = c .before .before .before .before in
     let two = three .before .before .before .before .before .before .before .before .before in

@@ -1,19 +1,13 @@
 -- `gridfile::read::get_cells` meets its contract: after i turns the cells from i on are left. Assumes nothing.
-use borrow.Author.Needs.{needs}
-use mathlib.Core.Path.{_≡_, sym, ap, ap₂, subst, subst₂, _∙_}
+use mathlib.Core.Path.{_≡_, sym, ap, subst, subst₂, _∙_}
 use Prim.Native.Nat.{ℕ, _+_, _-_, _*_, _^_, _≤_, _<_}
 use native.Mathlib.Numerals.{add-one}
 use native.Mathlib.Omega.{arith}
-use lib.IntN.{ℤ}
-use lib.ListN.{length, set}
+use lib.ListN.{length}
 use denote.Ref.{now}
-use mir.Syntax.{w16}
-use mir.Val.{ofZ, toZ}
-use mir.ValLaws.{toZ-ofZ}
 use Rattle.predict.specs.declared.grid.MEStats.{MEStats}
-use Rattle.predict.specs.Grid.{Grid, gridOf}
+use Rattle.predict.specs.Grid.{Grid, gridOf, withCell}
 use Rattle.gridfile.specs.Records.{fileBytes}
-use Rattle.gridfile.specs.Reading.{withCell}
 use Rattle.gridfile.proofs.WriteLaws.{shape-most}
 use Rattle.gridfile.proofs.LeftLaws.{Left, left-all, left-there, left-next, left-none}
 use Rattle.gridfile.proofs.read.get_cells.Statement.{statement}
@@ -65,47 +59,32 @@ get-cell-requires : tie.Need-get-cell-requires Inv-loop μ-loop
 unfolding fileBytes
 get-cell-requires c κs = there c
 
-mul-row : tie.Need-mul-row Inv-loop μ-loop
-mul-row c = omega (arith, most (c .before .before .before))
+save-cell-requires : tie.Need-save-cell-requires Inv-loop μ-loop
+save-cell-requires c κs =
+    let turn = c .before .before .before .before in
+    (rows-there turn, cols-there turn, sads-there turn)
 
-slice-set-from-row : tie.Need-slice-set-from-row Inv-loop μ-loop
-slice-set-from-row c = rows-there (c .before .before .before)
-
-mul-col : tie.Need-mul-col Inv-loop μ-loop
-mul-col c = omega (arith, most (c .before .before .before))
-
-slice-set-from-col : tie.Need-slice-set-from-col Inv-loop μ-loop
-slice-set-from-col c = cols-there (c .before .before .before)
-
-mul-sads : tie.Need-mul-sads Inv-loop μ-loop
-mul-sads c = omega (arith, most (c .before .before .before))
-
-slice-write-sads : tie.Need-slice-write-sads Inv-loop μ-loop
-slice-write-sads c = sads-there (c .before .before .before)
+-- a turn that is done
+abbrev turn : tie.After-slice-known2 Inv-loop μ-loop → tie.In-loop Inv-loop μ-loop
+turn c = c .before .before .before .before .before .before .before .before .before
 
 add-i : tie.Need-add-i Inv-loop μ-loop
-add-i c = omega (arith, most (c .before .before .before))
+add-i c = omega (arith, most (turn c))
 
 loop-less : tie.Need-loop-less Inv-loop μ-loop
-loop-less c = omega (arith, c .before .before .before .loop-test .taken)
-
--- the cell goes to its place
-set-cell : (c : tie.After-struct-told2 Inv-loop μ-loop) → (g : Grid) (i : ℕ) → gridOf (set (g .rows) i (toZ w16 (ofZ w16 (c .before .before .get-cell .result .mv .row)))) (set (g .cols) i (toZ w16 (ofZ w16 (c .before .before .get-cell .result .mv .col)))) (set (g .sads) i (c .before .before .get-cell .result .«normalized_sad»)) ≡ withCell i (c .before .before .get-cell .result) g
-unfolding withCell
-set-cell c g i =
-    let cell = c .before .before .get-cell .result in
-    ap₂ (λ (row col : ℤ). gridOf (set (g .rows) i row) (set (g .cols) i col) (set (g .sads) i (cell .«normalized_sad»))) (toZ-ofZ w16 (cell .mv .row) (search needs)) (toZ-ofZ w16 (cell .mv .col) (search needs))
+loop-less c = omega (arith, turn c .loop-test .taken)
 
 loop-again : tie.Need-loop-again Inv-loop μ-loop
 unfolding fileBytes
 loop-again c =
-    let turn = c .before .before .before in
-    let at = turn .before .loop in
-    let a = entry turn .args in
+    let saved = c .before .before .before .before in
+    let got = saved .before .before .before .before in
+    let at = turn c .before .loop in
+    let a = entry (turn c) .args in
     let g = gridOf (at .rows) (at .cols) (at .sads) in
     let lent = gridOf (now (a .rows)) (now (a .cols)) (now (a .sads)) in
-    let step = set-cell c g (at .i) ∙ ap (λ (m : MEStats). withCell (at .i) m g) (c .before .before .get-cell .ensures) in
-    let next = left-next (now (a .file)) (a .columns) (a .down) (entry turn .pre .0 .1) lent (at .i) g (turn .loop-test .taken) (at .inv) in
+    let step = saved .save-cell .ensures ∙ ap (λ (m : MEStats). withCell (at .i) m g) (got .get-cell .ensures) in
+    let next = left-next (now (a .file)) (a .columns) (a .down) (entry (turn c) .pre .0 .1) lent (at .i) g (turn c .loop-test .taken) (at .inv) in
     subst₂ (λ (n : ℕ) (h : Grid). Left (now (a .file)) (a .columns) (a .down) lent n h) (sym (add-one (at .i))) (sym step) next
 
 same-length : tie.Need-same-length Inv-loop μ-loop
@@ -138,12 +117,7 @@ get-cells-spec =
     mul-get-cell
     add-get-cell
     get-cell-requires
-    mul-row
-    slice-set-from-row
-    mul-col
-    slice-set-from-col
-    mul-sads
-    slice-write-sads
+    save-cell-requires
     add-i
     loop-less
     loop-again

@@ -8,7 +8,8 @@ use denote.Ref.{now}
 use Rattle.motion.specs.Every.{allBelow}
 use Rattle.motion.proofs.EveryLaws.{below-none, below-more, below-fails}
 use Rattle.gridfile.specs.Records.{fileBytes}
-use Rattle.gridfile.proofs.PlaceLaws.{cellMarked, mark-holds, mark-fails}
+use Rattle.gridfile.proofs.MarkLaws.{mark-holds, mark-fails}
+use Rattle.gridfile.proofs.PlaceLaws.{cellMarked}
 use Rattle.gridfile.proofs.read.marks_hold.Statement.{statement}
 use Rattle.gridfile.proofs.read.marks_hold.Tie as tie
 
@@ -44,7 +45,7 @@ unfolding fileBytes
 returns c =
     let turn = c .before .before in
     let file = now (turn .before .before .before .args .file) in
-    sym (below-fails _ (cellMarked file) (turn .before .loop .i) (turn .loop-test .taken) (mark-fails file (turn .before .loop .i) _ (turn .before .before .shared-slice-known .given) (there turn) (c .before .get-16 .ensures) (c .if1 .taken)))
+    sym (below-fails _ (cellMarked file) (turn .before .loop .i) (turn .loop-test .taken) (mark-fails file (fileBytes (turn .before .loop .i)) _ (turn .before .before .shared-slice-known .given) (there turn) (c .before .get-16 .ensures) (c .if1 .taken)))
 
 add-i : tie.Need-add-i Inv-loop μ-loop
 add-i c = omega arith
@@ -58,7 +59,7 @@ loop-again c =
     let turn = c .before .before in
     let at = turn .before .loop in
     let file = now (turn .before .before .before .args .file) in
-    (omega arith, below-more (at .i) (cellMarked file) (at .inv .1) (mark-holds file (at .i) _ (turn .before .before .shared-slice-known .given) (there turn) (c .before .get-16 .ensures) (c .if1 .left)))
+    (omega arith, below-more (at .i) (cellMarked file) (at .inv .1) (mark-holds file (fileBytes (at .i)) _ (turn .before .before .shared-slice-known .given) (there turn) (c .before .get-16 .ensures) (c .if1 .left)))
 
 returns-2 : tie.Need-returns-2 Inv-loop μ-loop
 returns-2 c =

@@ -72,14 +72,15 @@ returns-2 c =
 holds : (c : tie.Else2) → first (c .before .before .before .before .before .before) .columns * first (c .before .before .before .before .before .before) .rows ≤ room (lent (c .before .before .before .before .before .before))
 holds c = omega (arith, c .before .count-of .ensures, space-is (c .before .before), c .if2 .left)
 
-take-bytes-requires : tie.Need-take-bytes-requires
-take-bytes-requires c κs =
+take-fragment-requires : tie.Need-take-fragment-requires
+take-fragment-requires c κs =
     let long = c .before .before .before in
     let none = long .before .before .before .before in
     let called = none .before .before in
     let space = space-is (long .before .before) in
     let fits = first-fits (entry called .args .reader) (first called) (called .settled .ensures) (none .if1 .left) (lent called) (holds long) in (
       first-settled (entry called .args .reader) (first called) (called .settled .ensures),
+      none .if1 .left,
       subst (λ (n : ℕ). Fits n (stateOf (first called))) (sym space) fits,
       space,
     )
@@ -102,8 +103,8 @@ returns-3 c =
     let space = space-is (long .before .before) in
     let fragment = now (entry called .args .fragment) in
     let answer = take-done (entry called .args .reader) (first called) (called .settled .ensures) (none .if1 .left) (lent called) (holds long) fragment in (
-      done .take-bytes .ensures .0 ∙ ap (λ (n : ℕ). readerOf (taken n (stateOf (first called)) fragment)) space ∙ answer .0,
-      done .take-bytes .ensures .1 ∙ ap (λ (n : ℕ). kept n (stateOf (first called)) fragment (lent called)) space ∙ answer .1,
+      done .take-fragment .ensures .0 ∙ ap (λ (n : ℕ). readerOf (taken n (stateOf (first called)) fragment)) space ∙ answer .0,
+      done .take-fragment .ensures .1 ∙ ap (λ (n : ℕ). kept n (stateOf (first called)) fragment (lent called)) space ∙ answer .1,
     )
 
 pub lockdapple-reader-take-spec : {M : Type 1} → statement M
@@ -117,7 +118,7 @@ lockdapple-reader-take-spec =
     count-of-requires
     between-requires
     returns-2
-    take-bytes-requires
+    take-fragment-requires
     same-length
     same-length-2
     same-length-3

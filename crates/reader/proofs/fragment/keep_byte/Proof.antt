@@ -1,4 +1,4 @@
--- `reader::calls::keep_byte` meets its contract: only the last byte of a cell's record completes it. Assumes nothing.
+-- `reader::fragment::keep_byte` meets its contract: only the last byte of a cell's record completes it. Assumes nothing.
 use borrow.Author.Needs.{needs}
 use mathlib.Core.Path.{_≡_, sym, ap, subst, _∙_}
 use Prim.Native.Nat.{_*_, _≤_, _<_}
@@ -6,15 +6,15 @@ use native.Mathlib.Omega.{arith}
 use lib.ListN.{length, length-set}
 use denote.Ref.{now}
 use Rattle.predict.specs.declared.grid.MEStats.{MEStats}
-use Rattle.predict.specs.Grid.{Grid, gridOf}
-use Rattle.gridfile.specs.Reading.{begun, withCell, room}
+use Rattle.predict.specs.Grid.{Grid, gridOf, withCell}
+use Rattle.gridfile.specs.Reading.{begun, room}
 use Rattle.reader.specs.Held.{partBytes}
 use Rattle.reader.specs.Calls.{Fits}
 use Rattle.reader.proofs.OpenLaws.{Open, opened}
 use Rattle.reader.proofs.AnswerLaws.{some-columns}
 use Rattle.reader.proofs.KeepLaws.{keeps-refused, keeps-fewer, keeps-over, keeps-cell}
-use Rattle.reader.proofs.calls.keep_byte.Statement.{statement}
-use Rattle.reader.proofs.calls.keep_byte.Tie as tie
+use Rattle.reader.proofs.fragment.keep_byte.Statement.{statement}
+use Rattle.reader.proofs.fragment.keep_byte.Tie as tie
 
 module _ (c : tie.Else1) where
   abbrev entry : tie.Start

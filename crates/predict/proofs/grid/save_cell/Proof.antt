@@ -1,4 +1,4 @@
--- `reader::calls::save_cell` meets its contract. Assumes nothing.
+-- `predict::grid::save_cell` meets its contract. Assumes nothing.
 use borrow.Author.Needs.{needs}
 use mathlib.Core.Path.{ap₂}
 use native.Mathlib.Omega.{arith}
@@ -7,10 +7,9 @@ use lib.ListN.{set}
 use denote.Ref.{now}
 use mir.Syntax.{w16}
 use mir.ValLaws.{toZ-ofZ}
-use Rattle.predict.specs.Grid.{gridOf}
-use Rattle.gridfile.specs.Reading.{withCell}
-use Rattle.reader.proofs.calls.save_cell.Statement.{statement}
-use Rattle.reader.proofs.calls.save_cell.Tie as tie
+use Rattle.predict.specs.Grid.{gridOf, withCell}
+use Rattle.predict.proofs.grid.save_cell.Statement.{statement}
+use Rattle.predict.proofs.grid.save_cell.Tie as tie
 
 mul-row : tie.Need-mul-row
 mul-row c = omega (arith, c .before .before .pre, c .before .before .good)
@@ -43,7 +42,7 @@ returns : tie.Need-returns
 unfolding withCell
 returns c =
     let a = c .before .before .args in
-    ap₂ (λ (row col : ℤ). gridOf (set (now (a .rows)) (a .i) row) (set (now (a .cols)) (a .i) col) (set (now (a .sads)) (a .i) (a .cell .«normalized_sad»))) (toZ-ofZ w16 (a .cell .mv .row) (search needs)) (toZ-ofZ w16 (a .cell .mv .col) (search needs))
+    ap₂ (λ (row col : ℤ). gridOf (set (now (a .rows)) (a .i) row) (set (now (a .cols)) (a .i) col) (set (now (a .sads)) (a .i) (a .stats .«normalized_sad»))) (toZ-ofZ w16 (a .stats .mv .row) (search needs)) (toZ-ofZ w16 (a .stats .mv .col) (search needs))
 
 pub save-cell-spec : {M : Type 1} → statement M
 save-cell-spec =

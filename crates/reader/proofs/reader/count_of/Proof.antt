@@ -1,10 +1,10 @@
--- `reader::calls::count_of` meets its contract. Assumes nothing.
+-- `reader::reader::count_of` meets its contract. Assumes nothing.
 use borrow.Author.Needs.{needs}
 use mathlib.Core.Path.{refl}
 use native.Mathlib.Omega.{arith}
 use Rattle.gridfile.proofs.WriteLaws.{shape-most}
-use Rattle.reader.proofs.calls.count_of.Statement.{statement}
-use Rattle.reader.proofs.calls.count_of.Tie as tie
+use Rattle.reader.proofs.reader.count_of.Statement.{statement}
+use Rattle.reader.proofs.reader.count_of.Tie as tie
 
 cast-result : tie.Need-cast-result
 cast-result c = search needs

@@ -1,0 +1,157 @@
+use crate::bytes::next_byte;
+use crate::reader::Reader;
+use crate::reader::at_a_cell;
+use crate::reader::between;
+use crate::reader::count_of;
+use crate::reader::missing;
+use gridfile::read::least;
+use gridfile::records::get_16;
+use gridfile::records::get_cell;
+use predict::grid::save_cell;
+ghost use mathlib.Core.Path.{_≡_};
+ghost use Prim.Native.Nat.{_+_, _*_, _-_, _/_, _≤_, _<_, min};
+ghost use lib.ListN.{length, take};
+ghost use Rattle.predict.specs.Grid.{gridOf};
+ghost use Rattle.gridfile.specs.Records.{cellBytes};
+ghost use Rattle.gridfile.specs.Reading.{between, taken, keep, kept, room};
+ghost use Rattle.reader.specs.Held.{mostCells, readerOf, stateOf, Settled};
+ghost use Rattle.reader.specs.Calls.{Fits};
+
+// The cell that a byte completes goes to the grid.
+fn keep_byte(reader: Reader, byte: u8, rows: &mut [i16], cols: &mut [i16], sads: &mut [u32])
+    requires { ⌜ Settled reader × Fits (room (gridOf (now rows) (now cols) (now sads))) (stateOf reader) ⌝ }
+    ensures { λ r. ⌜ gridOf (now (rows .exit)) (now (cols .exit)) (now (sads .exit)) ≡ keep (room (gridOf (now (rows .entry)) (now (cols .entry)) (now (sads .entry)))) (stateOf reader) byte (gridOf (now (rows .entry)) (now (cols .entry)) (now (sads .entry))) ⌝ }
+{
+    if reader.code != 0 {
+        return;
+    }
+    if reader.held != 9 {
+        return;
+    }
+    if count_of(reader) <= reader.cells as usize {
+        return;
+    }
+    let mut record = reader.part;
+    record[9] = byte;
+    let cell = get_cell(&record, 0);
+    save_cell(reader.cells as usize, cell, rows, cols, sads);
+}
+
+// A fragment byte by byte, up to the first that is refused.
+fn take_bytes(
+    reader: Reader,
+    space: usize,
+    fragment: &[u8],
+    rows: &mut [i16],
+    cols: &mut [i16],
+    sads: &mut [u32],
+) -> Reader
+    requires { ⌜ Settled reader × Fits space (stateOf reader) × (space ≡ room (gridOf (now rows) (now cols) (now sads))) ⌝ }
+    ensures { λ r. ⌜ r ≡ readerOf (taken space (stateOf reader) (now (fragment .entry))) ⌝ }
+    ensures { λ r. ⌜ gridOf (now (rows .exit)) (now (cols .exit)) (now (sads .exit)) ≡ kept space (stateOf reader) (now (fragment .entry)) (gridOf (now (rows .entry)) (now (cols .entry)) (now (sads .entry))) ⌝ }
+{
+    let mut held = reader;
+    let mut i = 0;
+    while i < fragment.len() {
+        if held.code != 0 {
+            return held;
+        }
+        let byte = fragment[i];
+        keep_byte(held, byte, rows, cols, sads);
+        held = next_byte(held, space, byte);
+        i += 1;
+    }
+    held
+}
+
+// How many whole cell records may stand in so many bytes, where so many of the header's cells are in.
+fn whole_records(count: usize, cells: usize, bytes: usize) -> usize
+    ensures { λ r. ⌜ r ≡ min (count - cells) (bytes / cellBytes) ⌝ }
+{
+    if count <= cells {
+        return 0;
+    }
+    least(count - cells, bytes / 10)
+}
+
+// Cell records that are whole and good, from a fragment's start: how many. It need not be all of them, as the bytes behind are
+// taken in one by one.
+fn take_records(
+    columns: usize,
+    down: usize,
+    cells: usize,
+    fragment: &[u8],
+    rows: &mut [i16],
+    cols: &mut [i16],
+    sads: &mut [u32],
+) -> usize
+    requires { ⌜ (0 < columns) × (columns ≤ mostCells) × (down ≤ mostCells) ⌝ }
+    requires { ⌜ (columns * down ≤ length (now rows)) × (columns * down ≤ length (now cols)) × (columns * down ≤ length (now sads)) ⌝ }
+    ensures { λ r. ⌜ (r ≤ columns * down - cells) × (cellBytes * r ≤ length (now (fragment .entry))) × (taken 0 (between columns down cells) (take (cellBytes * r) (now (fragment .entry))) ≡ between columns down (cells + r)) ⌝ }
+    ensures { λ r. ⌜ gridOf (now (rows .exit)) (now (cols .exit)) (now (sads .exit)) ≡ kept 0 (between columns down cells) (take (cellBytes * r) (now (fragment .entry))) (gridOf (now (rows .entry)) (now (cols .entry)) (now (sads .entry))) ⌝ }
+{
+    let most = whole_records(columns * down, cells, fragment.len());
+    let mut i = 0;
+    while i < most {
+        if get_16(fragment, 10 * i) != 0x474C {
+            return i;
+        }
+        let cell = get_cell(fragment, 10 * i);
+        save_cell(cells + i, cell, rows, cols, sads);
+        i += 1;
+    }
+    i
+}
+
+// A fragment whose whole records are taken in at once where it starts with one.
+fn take_on(
+    reader: Reader,
+    space: usize,
+    fragment: &[u8],
+    rows: &mut [i16],
+    cols: &mut [i16],
+    sads: &mut [u32],
+) -> Reader
+    requires { ⌜ Settled reader × Fits space (stateOf reader) × (space ≡ room (gridOf (now rows) (now cols) (now sads))) ⌝ }
+    ensures { λ r. ⌜ r ≡ readerOf (taken space (stateOf reader) (now (fragment .entry))) ⌝ }
+    ensures { λ r. ⌜ gridOf (now (rows .exit)) (now (cols .exit)) (now (sads .exit)) ≡ kept space (stateOf reader) (now (fragment .entry)) (gridOf (now (rows .entry)) (now (cols .entry)) (now (sads .entry))) ⌝ }
+{
+    if !at_a_cell(reader) {
+        return take_bytes(reader, space, fragment, rows, cols, sads);
+    }
+    let columns = reader.columns as usize;
+    let down = reader.rows as usize;
+    let cells = reader.cells as usize;
+    let whole = take_records(columns, down, cells, fragment, rows, cols, sads);
+    let last = between(0, reader.columns, reader.rows, reader.cells + whole as u32);
+    let rest = &fragment[10 * whole..fragment.len()];
+    take_bytes(last, space, rest, rows, cols, sads)
+}
+
+// A fragment: the bytes that complete a record begun, then the rest.
+pub fn take_fragment(
+    reader: Reader,
+    space: usize,
+    fragment: &[u8],
+    rows: &mut [i16],
+    cols: &mut [i16],
+    sads: &mut [u32],
+) -> Reader
+    requires { ⌜ Settled reader × (reader .code ≡ 0) × Fits space (stateOf reader) × (space ≡ room (gridOf (now rows) (now cols) (now sads))) ⌝ }
+    ensures { λ r. ⌜ r ≡ readerOf (taken space (stateOf reader) (now (fragment .entry))) ⌝ }
+    ensures { λ r. ⌜ gridOf (now (rows .exit)) (now (cols .exit)) (now (sads .exit)) ≡ kept space (stateOf reader) (now (fragment .entry)) (gridOf (now (rows .entry)) (now (cols .entry)) (now (sads .entry))) ⌝ }
+{
+    let ahead = missing(reader);
+    if fragment.len() <= ahead {
+        return take_bytes(reader, space, fragment, rows, cols, sads);
+    }
+    let first = take_bytes(reader, space, &fragment[0..ahead], rows, cols, sads);
+    take_on(
+        first,
+        space,
+        &fragment[ahead..fragment.len()],
+        rows,
+        cols,
+        sads,
+    )
+}
