@@ -1,5 +1,5 @@
-//! Links the proved code, libinter.a and libgridfile.a, which stand in the workspace's
-//! folder.
+//! Links the proved code, libinter.a, libgridfile.a and libreader.a, which stand in the
+//! workspace's folder.
 
 use std::{env, path::Path};
 
@@ -7,7 +7,7 @@ fn main() {
     let package = env::var("CARGO_MANIFEST_DIR").unwrap();
     let folder = Path::new(&package).parent().unwrap().display();
     println!("cargo::rustc-link-search=native={folder}");
-    for name in ["inter", "gridfile"] {
+    for name in ["inter", "gridfile", "reader"] {
         println!("cargo::rustc-link-lib=static={name}");
         println!("cargo::rerun-if-changed={folder}/lib{name}.a");
     }

@@ -1,4 +1,5 @@
-//! Links the proved code, libgridfile.a, which stands in the workspace's folder.
+//! Links the proved code, libgridfile.a and libreader.a, which stand in the
+//! workspace's folder.
 
 use std::{env, path::Path};
 
@@ -6,6 +7,8 @@ fn main() {
     let package = env::var("CARGO_MANIFEST_DIR").unwrap();
     let folder = Path::new(&package).parent().unwrap().display();
     println!("cargo::rustc-link-search=native={folder}");
-    println!("cargo::rustc-link-lib=static=gridfile");
-    println!("cargo::rerun-if-changed={folder}/libgridfile.a");
+    for name in ["gridfile", "reader"] {
+        println!("cargo::rustc-link-lib=static={name}");
+        println!("cargo::rerun-if-changed={folder}/lib{name}.a");
+    }
 }

@@ -22,7 +22,7 @@ pub const ROWS: [Row; 2] = [("grid write", write_times), ("grid read", read_time
 
 /// A side in pixels, and the same in cells.
 const SIDE: usize = 1_024;
-const ACROSS: usize = SIDE / 4;
+pub const ACROSS: usize = SIDE / 4;
 const BYTES: usize = 4 + 10 * ACROSS * ACROSS;
 
 /// As `loops::write`.
@@ -50,7 +50,7 @@ fn write(width: usize, height: usize, grid: &Grid, file: &mut [u8]) -> Result<us
 }
 
 /// As `loops::read`.
-fn read(file: &[u8], grid: &mut Grid) -> Result<(usize, usize), u32> {
+pub fn read(file: &[u8], grid: &mut Grid) -> Result<(usize, usize), u32> {
     let Grid { rows, cols, sads } = grid;
     // SAFETY: the buffers are lent with their own lengths.
     let shape = unsafe {
@@ -71,7 +71,7 @@ fn read(file: &[u8], grid: &mut Grid) -> Result<(usize, usize), u32> {
     }
 }
 
-fn zeros(cells: usize) -> Grid {
+pub fn zeros(cells: usize) -> Grid {
     Grid {
         rows: vec![0; cells],
         cols: vec![0; cells],
@@ -81,7 +81,7 @@ fn zeros(cells: usize) -> Grid {
 
 /// Nanoseconds of one of `turns` calls, the first on what was `before`; or what is
 /// wrong where the last leaves something else than `after`.
-fn piece<T: Clone + PartialEq>(
+pub fn piece<T: Clone + PartialEq>(
     before: &T,
     after: &T,
     turns: usize,
@@ -103,7 +103,7 @@ fn copy(file: &Vec<u8>, turns: usize) -> Result<f64, String> {
 }
 
 /// A grid, and its file as the loop writes it.
-fn kept() -> (Grid, Vec<u8>) {
+pub fn kept() -> (Grid, Vec<u8>) {
     let (grid, mut file) = (cells(0, 1, SIDE, SIDE), vec![0; BYTES]);
     assert_eq!(loops::write(SIDE, SIDE, &grid, &mut file), Ok(BYTES));
     (grid, file)
@@ -133,9 +133,8 @@ fn read_times() -> Result<Times, String> {
     })
 }
 
-/// How many small files, whole and with one thing wrong, the loop and the proved code
-/// answer alike.
-pub fn check() -> Result<usize, String> {
+/// Small files, whole and with one thing wrong.
+pub fn small() -> Vec<Vec<u8>> {
     let grid = cells(0, 2, 8, 8);
     let mut whole = vec![0; 60];
     assert_eq!(loops::write(8, 8, &grid, &mut whole), Ok(44));
@@ -145,8 +144,18 @@ pub fn check() -> Result<usize, String> {
         file
     });
     let cut = (0..60).map(|len| whole[..len].to_vec());
-    let files: Vec<Vec<u8>> = cut.chain(changed).collect();
-    for (file, room) in files.iter().zip([3, 4, 8, 8, 8].into_iter().cycle()) {
+    cut.chain(changed).collect()
+}
+
+/// The cells that are lent for one small file after the other.
+pub fn rooms() -> impl Iterator<Item = usize> {
+    [3, 4, 8, 8, 8].into_iter().cycle()
+}
+
+/// How many small files the loop and the proved code answer alike.
+pub fn check() -> Result<usize, String> {
+    let files = small();
+    for (file, room) in files.iter().zip(rooms()) {
         let mut grids = [zeros(room), zeros(room)];
         let [one, other] = &mut grids;
         let answers = [loops::read(file, one), read(file, other)];

@@ -37,17 +37,18 @@ pub struct Row {
     pub previous: bool,
 }
 
-pub type Times = [Summary; 3];
+/// A summary for each column.
+pub type Times<const N: usize = 3> = [Summary; N];
 
 /// Makes a round, so many calls of each column, and gives the time of one call of
 /// each; or says what they differ on.
-pub type Round<'a> = dyn Fn([usize; 3]) -> Result<[f64; 3], String> + 'a;
+pub type Round<'a, const N: usize = 3> = dyn Fn([usize; N]) -> Result<[f64; N], String> + 'a;
 
 /// The times of all rounds, pieces of the columns in turn.
-pub fn rounds(one: &Round<'_>) -> Result<Times, String> {
+pub fn rounds<const N: usize>(one: &Round<'_, N>) -> Result<Times<N>, String> {
     // The first round also brings everything into the caches.
-    let turns = one([1; 3])?.map(|time| (PIECE / time).ceil() as usize);
-    let mut rounds: [Vec<f64>; 3] = Default::default();
+    let turns = one([1; N])?.map(|time| (PIECE / time).ceil() as usize);
+    let mut rounds = [(); N].map(|()| Vec::new());
     for _ in 0..ROUNDS {
         let times = one(turns)?;
         rounds.iter_mut().zip(times).for_each(|(r, t)| r.push(t));

@@ -4,6 +4,7 @@ use crate::{
     grid::Grid,
     lend::{Lent, MOST_BYTES, MOST_CELLS, Memory, Place},
     random::Random,
+    state::Given,
 };
 
 /// One call. A case is its numbers and nothing else, so any case can be replayed.
@@ -31,6 +32,14 @@ pub struct Outcome {
     /// Columns and rows of a grid that was written or read.
     pub shape: Option<(usize, usize)>,
     pub place: Place,
+    /// The calls of a reader; none where a file is written or read whole.
+    pub calls: usize,
+    /// The cells that a reader had taken in when it refused.
+    pub kept: usize,
+    /// A file in fragments was read whole as well.
+    pub whole: bool,
+    /// Where it is one call with a state that no call need have given back.
+    pub given: Option<Given>,
 }
 
 impl Outcome {
@@ -42,7 +51,15 @@ impl Outcome {
             refusal: expected.err().unwrap_or(0),
             shape: expected.ok(),
             place,
+            calls: 0,
+            kept: 0,
+            whole: false,
+            given: None,
         }
+    }
+
+    pub fn is_equal(&self) -> bool {
+        self.expected == self.proved
     }
 
     pub fn add(&mut self, name: &'static str, expected: impl Into<i128>, proved: impl Into<i128>) {

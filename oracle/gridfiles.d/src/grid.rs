@@ -82,4 +82,15 @@ impl Grid {
         self.cols[..cells.cols.len()].copy_from_slice(&cells.cols);
         self.sads[..cells.sads.len()].copy_from_slice(&cells.sads);
     }
+
+    /// The first of these numbers, with another grid's cells in place of the first.
+    pub fn holding(&self, cells: &Grid, lens: [usize; 3]) -> Grid {
+        let mut grid = self.clone();
+        grid.put(cells);
+        let [rows, cols, sads] = lens;
+        grid.rows.truncate(rows);
+        grid.cols.truncate(cols);
+        grid.sads.truncate(sads);
+        grid
+    }
 }

@@ -1,7 +1,12 @@
 //! Buffers as they are lent: among junk, or where memory ends or starts. Each is put
 //! in the same memory for every case, which costs far less than new memory would.
 
-use std::{ffi::c_void, mem::size_of, ops::Range, ptr, slice};
+use std::{
+    ffi::c_void,
+    mem::{self, size_of},
+    ops::Range,
+    ptr, slice,
+};
 
 use crate::{grid::Grid, judge::file_len};
 
@@ -47,6 +52,8 @@ impl Place {
 pub struct Memory<T> {
     start: *mut T,
     len: usize,
+    /// The junk of every place.
+    junk: Vec<T>,
     /// Where the buffer stands.
     lent: Range<usize>,
 }
@@ -68,6 +75,7 @@ impl<T: Copy + From<u8> + PartialEq> Memory<T> {
         Memory {
             start,
             len,
+            junk: (0..len).map(junk).collect(),
             lent: 0..0,
         }
     }
@@ -97,11 +105,13 @@ impl<T: Copy + From<u8> + PartialEq> Memory<T> {
         };
         self.lent = start..start + buffer.len();
         let (lent, near) = (self.lent.clone(), self.near());
+        let junk = mem::take(&mut self.junk);
         let items = self.items_mut();
-        for i in (near.start..lent.start).chain(lent.end..near.end) {
-            items[i] = junk(i);
+        for part in [near.start..lent.start, lent.end..near.end] {
+            items[part.clone()].copy_from_slice(&junk[part]);
         }
         items[lent].copy_from_slice(buffer);
+        self.junk = junk;
     }
 
     pub fn lend(&self) -> &[T] {
@@ -116,10 +126,16 @@ impl<T: Copy + From<u8> + PartialEq> Memory<T> {
     /// The first item, counted from the buffer's start, that is not as if `buffer`
     /// had been put there and nothing written: what it should be, and is.
     pub fn first_difference(&self, buffer: &[T]) -> Option<(isize, T, T)> {
-        let (lent, items) = (&self.lent, self.items());
+        let (lent, near, items) = (&self.lent, self.near(), self.items());
+        let mut round = [near.start..lent.start, lent.end..near.end].into_iter();
+        if items[lent.clone()] == *buffer
+            && round.all(|part| items[part.clone()] == self.junk[part])
+        {
+            return None;
+        }
         let should = |i: usize| match lent.contains(&i) {
             true => buffer[i - lent.start],
-            false => junk(i),
+            false => self.junk[i],
         };
         let at = self.near().find(|&i| items[i] != should(i))?;
         Some((at as isize - lent.start as isize, should(at), items[at]))

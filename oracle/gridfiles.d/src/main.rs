@@ -1,16 +1,21 @@
-//! Writes and reads grid files by the proved code and by the judge, and compares
-//! their answers and all memory that was lent.
+//! Writes and reads grid files, whole and in fragments, by the proved code and by the
+//! judges, and compares their answers and all memory that was lent.
 
 mod case;
 mod draw;
+mod fragments;
 mod grid;
 mod judge;
 mod lend;
+mod link;
 mod proved;
 #[path = "../../cases/src/random.rs"]
 mod random;
 mod read;
+mod reader;
+mod state;
 mod tally;
+mod told;
 #[path = "../../compare.d/src/trap.rs"]
 mod trap;
 mod write;
@@ -25,9 +30,11 @@ use std::{
 
 use crate::{
     case::{Answer, Case, Outcome},
+    fragments::Fragments,
     lend::Lent,
     random::Random,
     read::Read,
+    state::State,
     tally::Tally,
     write::Write,
 };
@@ -36,11 +43,17 @@ use crate::{
 type Draw = fn(&mut Random, usize) -> Box<dyn Case>;
 
 /// Every kind of case with its cases in a round: one, where it goes through a list.
-const KINDS: [(&str, usize, Draw); 4] = [
+const KINDS: [(&str, usize, Draw); 10] = [
     ("write", 4, Write::draw),
     ("read", 4, Read::draw),
     ("cut", 1, Read::cut),
     ("changed", 1, Read::changed),
+    ("fragments", 9, Fragments::draw),
+    ("in_two", 1, Fragments::in_two),
+    ("in_three", 1, Fragments::in_three),
+    ("bytes", 1, Fragments::bytes),
+    ("short", 1, Fragments::short),
+    ("state", 2, State::draw),
 ];
 
 fn usage(why: &str) -> ExitCode {
@@ -86,7 +99,7 @@ fn compare(seed: u64, cases: usize) -> ExitCode {
         let replay = replay_line(&*case);
         trap::under_way(&replay);
         let outcome = case.run(&mut lent);
-        if outcome.expected != outcome.proved {
+        if !outcome.is_equal() {
             println!("different: case {number}, {kind}");
             for (name, number) in case.columns().iter().zip(case.numbers()) {
                 println!("  {name} {number}");
@@ -102,8 +115,8 @@ fn compare(seed: u64, cases: usize) -> ExitCode {
         }
     }
     tally.print();
-    if let Some(number) = tally.never() {
-        println!("never refused {number}: more cases are needed");
+    if let Some(what) = tally.never() {
+        println!("never {what}: more cases are needed");
         return ExitCode::from(1);
     }
     println!("equal {cases} of {cases}");
@@ -114,7 +127,7 @@ fn replay(case: &dyn Case) -> ExitCode {
     trap::under_way(&replay_line(case));
     let outcome = case.run(&mut Lent::new());
     print_answers(&outcome);
-    let equal = outcome.expected == outcome.proved;
+    let equal = outcome.is_equal();
     println!("{}", if equal { "equal 1 of 1" } else { "different" });
     ExitCode::from(u8::from(!equal))
 }
@@ -130,9 +143,11 @@ fn main() -> ExitCode {
                 (_, Err(_)) => return usage("a case is whole numbers"),
                 ("write", Ok(numbers)) => Write::take(&numbers),
                 ("read", Ok(numbers)) => Read::take(&numbers),
+                ("fragments", Ok(numbers)) => Fragments::take(&numbers),
+                ("state", Ok(numbers)) => State::take(&numbers),
                 _ => {
                     return usage(&format!(
-                        "no kind {kind:?} to replay; there are write, read"
+                        "no kind {kind:?} to replay; there are write, read, fragments, state"
                     ));
                 }
             };

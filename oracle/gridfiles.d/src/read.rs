@@ -12,13 +12,13 @@ use crate::{
 
 pub struct Read {
     /// What the header says, before anything is changed.
-    columns: usize,
-    rows: usize,
+    pub columns: usize,
+    pub rows: usize,
     /// A file that is shorter than the header says is cut off, a longer one goes on
     /// with records.
-    buffers: Buffers,
+    pub buffers: Buffers,
     /// Places of bytes that are changed, and which of their bits.
-    changes: Vec<(usize, u8)>,
+    pub changes: Vec<(usize, u8)>,
 }
 
 /// Columns and rows of the files that are cut at every length.
@@ -65,8 +65,32 @@ fn bits(random: &mut Random) -> u8 {
     random.pick(&[one, any, judge::MARK[0] ^ judge::MARK[1]])
 }
 
+/// The proved reading of what is lent.
+pub fn read_lent(lent: &mut Lent) -> proved::Shape {
+    let bytes = lent.file.lend();
+    let (rows, cols) = (lent.rows.lend_mut(), lent.cols.lend_mut());
+    let sads = lent.sads.lend_mut();
+    // SAFETY: the buffers are lent with their own lengths.
+    unsafe {
+        proved::lockdapple_grid_read(
+            bytes.as_ptr(),
+            bytes.len(),
+            rows.as_mut_ptr(),
+            rows.len(),
+            cols.as_mut_ptr(),
+            cols.len(),
+            sads.as_mut_ptr(),
+            sads.len(),
+        )
+    }
+}
+
 impl Read {
     pub fn draw(random: &mut Random, _: usize) -> Box<dyn Case> {
+        Box::new(Self::any(random))
+    }
+
+    pub fn any(random: &mut Random) -> Self {
         let (mut columns, mut rows) = shape(random);
         match random.below(48) {
             0 => columns -= 1,
@@ -86,12 +110,12 @@ impl Read {
             len = len.min(at + random.below(3));
         }
         let lens = lengths(random, cells);
-        Box::new(Read {
+        Read {
             columns,
             rows,
             buffers: Buffers::draw(random, lens, len),
             changes,
-        })
+        }
     }
 
     /// The small files at one length after the other.
@@ -124,6 +148,10 @@ impl Read {
 
     /// The case of these numbers, or None where there is no such case.
     pub fn take(numbers: &[u64]) -> Option<Box<dyn Case>> {
+        Some(Box::new(Self::of(numbers)?))
+    }
+
+    pub fn of(numbers: &[u64]) -> Option<Self> {
         let (&[columns, rows], rest) = numbers.split_first_chunk()?;
         let (&buffers, rest) = rest.split_first_chunk()?;
         let (changes, []) = rest.as_chunks() else {
@@ -137,10 +165,10 @@ impl Read {
             changes: changes.iter().map(change).collect(),
         };
         let there = (1..=256).contains(&columns) && (1..=256).contains(&rows);
-        there.then(|| Box::new(read) as Box<dyn Case>)
+        there.then_some(read)
     }
 
-    fn file(&self) -> Vec<u8> {
+    pub fn file(&self) -> Vec<u8> {
         let cells = self.buffers.bytes / 10 + 1;
         let grid = Grid::new(self.buffers.seed + 1, [cells; 3]);
         let mut file = judge::records(self.columns, self.rows, &grid);
@@ -184,22 +212,7 @@ impl Case for Read {
             assert!(judge::write(4 * columns, 4 * rows, grid, file.len()) == Ok(file.clone()));
         }
         lent.put(self.buffers.place, &before, &file);
-        let bytes = lent.file.lend();
-        let (rows, cols) = (lent.rows.lend_mut(), lent.cols.lend_mut());
-        let sads = lent.sads.lend_mut();
-        // SAFETY: the buffers are lent with their own lengths.
-        let shape = unsafe {
-            proved::lockdapple_grid_read(
-                bytes.as_ptr(),
-                bytes.len(),
-                rows.as_mut_ptr(),
-                rows.len(),
-                cols.as_mut_ptr(),
-                cols.len(),
-                sads.as_mut_ptr(),
-                sads.len(),
-            )
-        };
+        let shape = read_lent(lent);
         let expected = expected.map(|(columns, rows, _)| (columns, rows));
         let (columns, rows) = expected.unwrap_or((0, 0));
         let mut outcome = Outcome::new(expected, self.buffers.place);
