@@ -4,12 +4,12 @@ use mathlib.Core.Path.{_≡_, refl, sym, ap}
 use mathlib.Core.Bool.{Bool, true, false, _&&_, cond}
 use mathlib.Core.Logic.{⊎-elim}
 use mathlib.Core.List.{List, [], _∷_, _++_}
-use Prim.Native.Nat.{ℕ, zero, suc, _-_, _*_, _≤_, _<_, min}
+use Prim.Native.Nat.{ℕ, zero, suc, _+_, _-_, _*_, _≤_, _<_, min}
 use native.Mathlib.Nat.{eq-zero-or-pos}
 use native.Mathlib.Omega.{arith}
 use borrow.Author.Tests.{leb-true, le-leb, eqb-true, eqb-false, eq-eqb, ne-eqb, ltb-true, ltb-false}
 use lib.Dec.{leb, ltb, eqb}
-use lib.ListN.{length, take, drop, length-take, length-append, take-append-drop}
+use lib.ListN.{length, getD, take, drop, length-take, length-append, take-append-drop}
 use lib.Seq.{take-at}
 use Rattle.motion.proofs.TestLaws.{tested, both}
 use Rattle.gridfile.specs.Records.{headerBytes, cellBytes}
@@ -29,8 +29,10 @@ module _ (columns : ℕ) where
   unfolding recordBytes
   cell-next some = rw (ne-eqb columns 0 (λ e. absurd (omega arith)))
 
-  pub some-next : 0 < recordBytes columns
-  some-next = ⊎-elim (λ e. omega (arith, header-next e)) (λ p. omega (arith, cell-next p)) (eq-zero-or-pos columns)
+  pub some-bytes : (headerBytes ≤ recordBytes columns) × (recordBytes columns ≤ cellBytes)
+  some-bytes =
+      ⊎-elim {C = (headerBytes ≤ recordBytes columns) × (recordBytes columns ≤ cellBytes)} (λ e. (omega (arith, header-next e), omega (arith, header-next e))) (λ p. (omega (arith, cell-next p), omega (arith, cell-next p)))
+      (eq-zero-or-pos columns)
 
 -- a refusal leaves no record begun; without one columns and rows are as a header can say them, and a record begun is not whole
 pub record Sound (s : State) : Type 0 where
@@ -43,7 +45,7 @@ pub sound-refused : {s : State} → (s .code ≡ 0 → ⊥) → s .part ≡ [] �
 sound-refused some empty = record { none = λ some. empty; columns = λ z. absurd (some z); rows = λ z. absurd (some z); begun = λ z. absurd (some z) }
 
 pub sound-start : Sound start
-sound-start = record { none = λ some. refl; columns = λ z. omega arith; rows = λ z. omega arith; begun = λ z. some-next 0 }
+sound-start = record { none = λ some. refl; columns = λ z. omega arith; rows = λ z. omega arith; begun = λ z. omega (arith, some-bytes 0) }
 
 -- the record of a state gives it back
 module _ (s : State) where
@@ -108,7 +110,7 @@ sound-of r =
       none = λ some. absurd (some (eqb-true (r .code) 0 e));
       columns = λ z. leb-true (r .columns) mostCells (tests .0);
       rows = λ z. leb-true (r .rows) mostCells (tests .1);
-      begun = λ z. omega (arith, length-take (min (r .held) (recordBytes (r .columns) - 1)) (r .part), some-next (r .columns));
+      begun = λ z. omega (arith, length-take (min (r .held) (recordBytes (r .columns) - 1)) (r .part), some-bytes (r .columns));
     })
     (λ t. sound-refused (λ z. absurd (omega arith)) refl))
     (λ e. sound-refused (eqb-false (r .code) 0 e) refl)
@@ -141,8 +143,8 @@ module _ (space : ℕ) (s : State) (byte : ℕ) (ofBytes : OfBytes (s .part)) (s
       next-by Sound space s byte (λ e n. sound-refused (λ z. absurd (omega arith)) refl)
       (λ e left. record { none = λ some. absurd (some e); columns = ok .columns; rows = ok .rows; begun = λ z. omega (arith, length-append (s .part) (byte ∷ [])) })
       (λ some. ok)
-      (λ e first full. record { none = λ some. refl; columns = λ z. omega (arith, bytes 2); rows = λ z. omega (arith, bytes 3); begun = λ z. some-next _ })
-      (λ e wide more full. record { none = λ some. refl; columns = ok .columns; rows = ok .rows; begun = λ z. some-next (s .columns) })
+      (λ e first full. record { none = λ some. refl; columns = λ z. omega (arith, bytes 2); rows = λ z. omega (arith, bytes 3); begun = λ z. omega (arith, some-bytes (getD (s .part ++ byte ∷ []) 2 0 + 1)) })
+      (λ e wide more full. record { none = λ some. refl; columns = ok .columns; rows = ok .rows; begun = λ z. omega (arith, some-bytes (s .columns)) })
 
 pub bytes-taken : (space : ℕ) (s : State) (bytes : List ℕ) → OfBytes (s .part) → OfBytes bytes → OfBytes (taken space s bytes .part)
 unfolding taken

@@ -12,8 +12,8 @@ use Rattle.gridfile.specs.Reading.{State, refusedAt, begun, headerDone, headerE
 use Rattle.gridfile.proofs.TakenLaws.{past-mark, byte-last}
 use Rattle.reader.specs.declared.reader.Reader.{Reader}
 use Rattle.reader.specs.Held.{partBytes, stateOf}
-use Rattle.reader.proofs.HeldLaws.{next-by}
-use Rattle.reader.proofs.OpenLaws.{Open, number-stays, some-bytes}
+use Rattle.reader.proofs.HeldLaws.{some-bytes, next-by}
+use Rattle.reader.proofs.OpenLaws.{Open, number-stays}
 use Rattle.reader.proofs.ByteLaws.{bytes, held-state, cell-next}
 
 -- most bytes complete none

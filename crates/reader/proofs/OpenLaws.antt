@@ -10,10 +10,10 @@ use lib.Dec.{leb, ltb, eqb}
 use lib.ListN.{length, take, replicate, length-take}
 use lib.Seq.{length-take-le}
 use Rattle.motion.proofs.TestLaws.{tested, both}
-use Rattle.gridfile.specs.Records.{headerBytes, cellBytes}
 use Rattle.gridfile.specs.Reading.{between, begun, refusedAt}
 use Rattle.reader.specs.declared.reader.Reader.{Reader}
 use Rattle.reader.specs.Held.{plain, partBytes, readerOf, recordBytes, mostCells, shaped, stateOf, Settled}
+use Rattle.reader.proofs.HeldLaws.{some-bytes}
 
 -- fewer bytes are held than the record has
 pub record Open (r : Reader) : Type 0 where
@@ -23,15 +23,6 @@ pub record Open (r : Reader) : Type 0 where
   pub long : length (take (r .held) (r .part)) ≡ r .held
   pub tidy : take (r .held) (r .part) ++ replicate (partBytes - r .held) 0 ≡ r .part
   pub state : stateOf r ≡ begun (plain 0 (r .columns) (r .rows) (r .cells)) (take (r .held) (r .part))
-
--- a record has bytes
-pub some-bytes : (columns : ℕ) → (headerBytes ≤ recordBytes columns) × (recordBytes columns ≤ cellBytes)
-unfolding recordBytes
-some-bytes columns = go (eqb columns 0)
-  where
-    go : (t : Bool) → (headerBytes ≤ cond t headerBytes cellBytes) × (cond t headerBytes cellBytes ≤ cellBytes)
-    go true = (omega arith, omega arith)
-    go false = (omega arith, omega arith)
 
 -- what a reader stands for: its refusal, 12 for columns or rows that no header says, or the bytes that count
 module _ (r : Reader) where

@@ -3,7 +3,8 @@ use borrow.Author.Needs.{needs}
 use Prim.Native.Nat.{suc, _<_}
 use native.Mathlib.Omega.{arith}
 use Rattle.reader.specs.Held.{partBytes}
-use Rattle.reader.proofs.OpenLaws.{Open, opened, some-bytes}
+use Rattle.reader.proofs.HeldLaws.{some-bytes}
+use Rattle.reader.proofs.OpenLaws.{Open, opened}
 use Rattle.reader.proofs.ByteLaws.{begins}
 use Rattle.reader.proofs.bytes.begin.Statement.{statement}
 use Rattle.reader.proofs.bytes.begin.Tie as tie

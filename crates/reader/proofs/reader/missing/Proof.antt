@@ -5,7 +5,7 @@ use Prim.Native.Nat.{ℕ, _+_, _-_, _%_}
 use native.Mathlib.Omega.{arith}
 use Rattle.gridfile.specs.Records.{cellBytes}
 use Rattle.reader.specs.Held.{recordBytes}
-use Rattle.reader.proofs.OpenLaws.{some-bytes}
+use Rattle.reader.proofs.HeldLaws.{some-bytes}
 use Rattle.reader.proofs.reader.missing.Statement.{statement}
 use Rattle.reader.proofs.reader.missing.Tie as tie
 

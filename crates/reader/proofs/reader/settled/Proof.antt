@@ -8,7 +8,8 @@ use lib.ListN.{length, take}
 use Rattle.gridfile.specs.Reading.{begun}
 use Rattle.reader.specs.declared.reader.Reader.{Reader}
 use Rattle.reader.specs.Held.{plain, partBytes, readerOf, recordBytes}
-use Rattle.reader.proofs.OpenLaws.{some-bytes, stands-refused, stands-wide, stands-high, stands-open, with-bytes}
+use Rattle.reader.proofs.HeldLaws.{some-bytes}
+use Rattle.reader.proofs.OpenLaws.{stands-refused, stands-wide, stands-high, stands-open, with-bytes}
 use Rattle.reader.proofs.reader.settled.Statement.{statement}
 use Rattle.reader.proofs.reader.settled.Tie as tie
 
