@@ -2,14 +2,15 @@
  *
  * Link the static library that `rt staticlib inter` writes; for the two
  * functions of grid files, the one that `rt staticlib gridfile` writes; for the
- * three of a link's reader at the end, the one that `rt staticlib reader`
- * writes. A program can link any of them. No function asks anything of its
- * caller: whatever numbers and buffers come, it ends, reads only what it was
- * lent, and answers or refuses; a step, a run and the reading of a file write
- * to the grid that they are lent, the writing of a file to the bytes that it is
- * lent, and nowhere else. A slice is a pointer and a count of elements; with a
- * count of 0 the pointer may be anything but null. A buffer that is written
- * must not overlap another.
+ * three of a link's reader, the one that `rt staticlib reader` writes; for the
+ * comparison at the end, the one that `rt staticlib compare` writes. A program
+ * can link any of them. No function asks anything of its caller: whatever
+ * numbers and buffers come, it ends, reads only what it was lent, and answers
+ * or refuses; a step, a run and the reading of a file write to the grid that
+ * they are lent, the writing of a file to the bytes that it is lent, and
+ * nowhere else. A slice is a pointer and a count of elements; with a count of 0
+ * the pointer may be anything but null. A buffer that is written must not
+ * overlap another.
  *
  * Frame: width and height are multiples of 8, from 8 to 1,024.
  * Level: 4, 3 or 2, with blocks of 64, 32 or 16 pixels, shift s = 2, 1 or 0,
@@ -31,9 +32,10 @@
  * (width + 63) / 64 in each of (height + 63) / 64 rows.
  *
  * Refusals (the lowest that applies, but for the reading of a file, where the
- * first from the file's front counts; with 0 in every other field; after one
- * every cell of the grid and every byte of the file stays as it was; a link's
- * reader alone keeps its shape, and the cells taken in before):
+ * first from the file's front counts, and for a comparison, which names its
+ * order; with 0 in every other field; after one every cell of the grid and
+ * every byte of the file stays as it was; a link's reader alone keeps its
+ * shape, and the cells taken in before):
  *   0  done
  *   1  width or height outside the rule above
  *   2  level not 2, 3 or 4; for a refinement, not 2 or 3
@@ -50,7 +52,9 @@
  *  11  the file that is read is too short or too long
  *  12  the file that is read has an odd number of columns or rows
  *  13  fewer bytes are lent than the file has that is written, or a buffer of
- *      the grid has fewer cells than the file that is read
+ *      a grid has fewer cells than the file that is read, or than the shape that
+ *      is compared
+ *  14  the two grids that are compared have unequal shapes
  */
 #ifndef LOCKDAPPLE_H
 #define LOCKDAPPLE_H
@@ -263,6 +267,41 @@ struct lockdapple_reader lockdapple_reader_take(struct lockdapple_reader reader,
 
 /* The state at the file's end: 11 where bytes are missing, else as it was. */
 struct lockdapple_reader lockdapple_reader_end(struct lockdapple_reader reader);
+
+/* Two grids cell by cell. Each comes with the shape that its reading gave back,
+ * a refused one too, so both files are read before anything is asked:
+ *
+ *     struct lockdapple_shape a, b;
+ *     struct lockdapple_comparison c;
+ *     a = lockdapple_grid_read(a_file, a_size, a_rows, n, a_cols, n, a_sads, n);
+ *     b = lockdapple_grid_read(b_file, b_size, b_rows, n, b_cols, n, b_sads, n);
+ *     c = lockdapple_grids_compare(a, a_rows, n, a_cols, n, a_sads, n,
+ *                                  b, b_rows, n, b_cols, n, b_sads, n, 0);
+ *     if (c.code != 0)
+ *         printf("refused %u\n", c.code);
+ *     else
+ *         printf("differ %lu of %u\n", (unsigned long)c.count, a.columns * a.rows);
+ */
+
+/* A refusal's number, how many cells differ from a cell on, and the first of
+ * them, cells being numbered from 0 row by row; where none differs, the number
+ * of cells. */
+struct lockdapple_comparison {
+    uint32_t code;
+    uint64_t count;
+    uint64_t first;
+};
+
+/* The cells that differ in row, col or SAD, from cell `from` on: asked again
+ * from `first` + 1 on, it gives the next one. Refuses with the first shape's
+ * number, then with the second's, then with 14, then with 13. */
+struct lockdapple_comparison lockdapple_grids_compare(struct lockdapple_shape first, const int16_t *first_rows,
+                                                      size_t first_rows_len, const int16_t *first_cols,
+                                                      size_t first_cols_len, const uint32_t *first_sads,
+                                                      size_t first_sads_len, struct lockdapple_shape second,
+                                                      const int16_t *second_rows, size_t second_rows_len,
+                                                      const int16_t *second_cols, size_t second_cols_len,
+                                                      const uint32_t *second_sads, size_t second_sads_len, size_t from);
 
 #ifdef __cplusplus
 }

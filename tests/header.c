@@ -1,5 +1,5 @@
 /* include/lockdapple.h compiles as C and C++, its structs lie as the libraries' do, and each function answers
- * what document 01 says of a flat frame of 8 by 8 pixels. Grid files are gridfile.c's. */
+ * what document 01 says of a flat frame of 8 by 8 pixels. Grid files are gridfile.c's, comparisons compare.c's. */
 #include "lockdapple.h"
 
 #include <stdio.h>
@@ -39,6 +39,9 @@ HOLDS(offsetof(struct lockdapple_reader, cells) == 12);
 HOLDS(offsetof(struct lockdapple_reader, held) == 16);
 HOLDS(offsetof(struct lockdapple_reader, part) == 20);
 HOLDS(offsetof(struct lockdapple_reader, spare) == 36);
+HOLDS(sizeof(struct lockdapple_comparison) == 24);
+HOLDS(offsetof(struct lockdapple_comparison, count) == 8);
+HOLDS(offsetof(struct lockdapple_comparison, first) == 16);
 
 /* The quarter, half and full plane of a frame of 8 by 8: 2 + 40, 4 + 80 and 8 + 96 samples a side. */
 static uint8_t flat[104 * 104];

@@ -7,12 +7,13 @@ use native.Mathlib.Nat.{add-zero, zero-add, add-suc, suc-add, add-assoc, mul-ass
 use native.Mathlib.Numerals.{add-one, add-two}
 use native.Mathlib.Omega.{arith}
 use borrow.Author.Tests.{leb-true}
-use lib.ListN.{length, getD, set, take, drop, length-append}
+use lib.ListN.{length, getD, take, drop, length-append}
 use lib.Seq.{sets, sets-eq, slice, take-nil, take-take, drop-drop, slice-empty, slice-cons}
 use mir.Syntax.{w8}
 use mir.Val.{Fits}
 use Rattle.motion.specs.Limits.{largestSide, cellSide}
 use Rattle.motion.specs.Frame.{Side}
+use Rattle.motion.proofs.ListLaws.{sets-append}
 use Rattle.motion.proofs.TestLaws.{both}
 use Rattle.predict.specs.declared.grid.MEStats.{MEStats}
 use Rattle.predict.specs.Grid.{Grid, Held, cells, statsAt}
@@ -36,10 +37,6 @@ length-cells g i zero = refl
 length-cells g i (suc n) = simp (length-append, length-cell, length-cells g (suc i) n) (omega arith)
 
 -- bytes put behind others are put with them
-pub sets-append : {A : Type 0} (l : List A) (i : ℕ) (xs ys : List A) → sets l i (xs ++ ys) ≡ sets (sets l i xs) (i + length xs) ys
-sets-append l i [] ys = rw add-zero
-sets-append l i (x ∷ xs) ys = rw (add-suc, ← suc-add) (sets-append (set l i x) (suc i) xs ys)
-
 pub puts-on : (l : List ℕ) (i : ℕ) (xs ys : List ℕ) {m n : List ℕ} {k : ℕ} → m ≡ sets l i xs → n ≡ sets m k ys → i + length xs ≡ k → n ≡ sets l i (xs ++ ys)
 puts-on l i xs ys e f at = f ∙ ap₂ (λ (m : List ℕ) (k : ℕ). sets m k ys) e (sym at) ∙ sym (sets-append l i xs ys)
 

@@ -1,6 +1,7 @@
 -- Laws that several proofs and other crates cite.
 pub mod Bias
 pub mod Words
+pub mod ListLaws
 pub mod TestLaws
 pub mod EveryLaws
 pub mod VectorLaws

@@ -1,0 +1,7 @@
+-- Laws that several proofs cite, and the theorems of specs/Places.antt.
+pub mod CellLaws
+pub mod DifferLaws
+pub mod AnswerLaws
+pub mod PlaceLaws
+pub mod Places
+pub mod Examples

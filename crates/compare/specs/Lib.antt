@@ -1,0 +1,5 @@
+-- What a reader must believe of two grids that are compared: where they differ, what the call answers, and what is promised of
+-- the places.
+pub mod Differ
+pub mod Answer
+pub mod Places

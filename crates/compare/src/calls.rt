@@ -1,0 +1,97 @@
+use crate::cells::count_differing;
+use crate::cells::next_differing;
+use gridfile::read::Shape;
+use gridfile::read::least;
+ghost use mathlib.Core.Path.{_≡_};
+ghost use Rattle.predict.specs.Grid.{gridOf};
+ghost use Rattle.compare.specs.Answer.{compareRefusal, compareAnswer};
+
+// A number of document 02, how many places differ from a cell on, and the first of them.
+#[repr(C)]
+pub struct Comparison {
+    pub code: u32,
+    pub count: u64,
+    pub first: u64,
+}
+
+// What the two files were refused with, then numbers 14 and 13.
+pub fn compare_refusal(first: Shape, first_room: usize, second: Shape, second_room: usize) -> u32
+    ensures { λ r. ⌜ r ≡ compareRefusal first «first_room» second «second_room» ⌝ }
+{
+    if first.code != 0 {
+        return first.code;
+    }
+    if second.code != 0 {
+        return second.code;
+    }
+    if first.columns != second.columns {
+        return 14;
+    }
+    if first.rows != second.rows {
+        return 14;
+    }
+    let cells = (first.columns as usize) * (first.rows as usize);
+    if first_room < cells {
+        return 13;
+    }
+    if second_room < cells {
+        return 13;
+    }
+    0
+}
+
+#[no_mangle]
+pub extern "C" fn lockdapple_grids_compare(
+    first: Shape,
+    first_rows: &[i16],
+    first_cols: &[i16],
+    first_sads: &[u32],
+    second: Shape,
+    second_rows: &[i16],
+    second_cols: &[i16],
+    second_sads: &[u32],
+    from: usize,
+) -> Comparison
+    ensures { λ r. ⌜ r ≡ compareAnswer first (gridOf (now («first_rows» .entry)) (now («first_cols» .entry)) (now («first_sads» .entry))) second (gridOf (now («second_rows» .entry)) (now («second_cols» .entry)) (now («second_sads» .entry))) from ⌝ }
+{
+    let first_room = least(first_rows.len(), least(first_cols.len(), first_sads.len()));
+    let second_room = least(
+        second_rows.len(),
+        least(second_cols.len(), second_sads.len()),
+    );
+    let code = compare_refusal(first, first_room, second, second_room);
+    if code != 0 {
+        return Comparison {
+            code,
+            count: 0,
+            first: 0,
+        };
+    }
+    let cells = (first.columns as usize) * (first.rows as usize);
+    let next = next_differing(
+        first_rows,
+        first_cols,
+        first_sads,
+        second_rows,
+        second_cols,
+        second_sads,
+        from,
+        cells,
+    );
+    // Nothing before it differs.
+    let count = count_differing(
+        first_rows,
+        first_cols,
+        first_sads,
+        second_rows,
+        second_cols,
+        second_sads,
+        next,
+        cells,
+    );
+    Comparison {
+        code: 0,
+        count: count as u64,
+        first: next as u64,
+    }
+}

@@ -1,0 +1,99 @@
+use predict::grid::MEStats;
+use predict::grid::stats_at;
+ghost use mathlib.Core.Path.{_≡_};
+ghost use Prim.Native.Nat.{_≤_, _<_};
+ghost use lib.ListN.{length, getD};
+ghost use Rattle.predict.specs.Grid.{gridOf};
+ghost use Rattle.compare.specs.Differ.{sameCell, differsAt, differing};
+
+fn same_cell(a: MEStats, b: MEStats) -> bool
+    ensures { λ r. ⌜ r ≡ sameCell a b ⌝ }
+{
+    a.mv.row == b.mv.row && a.mv.col == b.mv.col && a.normalized_sad == b.normalized_sad
+}
+
+// Whether a cell of the first grid and that of the second do not hold the same.
+pub fn differs_at(
+    first_rows: &[i16],
+    first_cols: &[i16],
+    first_sads: &[u32],
+    second_rows: &[i16],
+    second_cols: &[i16],
+    second_sads: &[u32],
+    i: usize,
+) -> bool
+    requires { ⌜ (i < length (now «first_rows»)) × (i < length (now «first_cols»)) × (i < length (now «first_sads»)) ⌝ }
+    requires { ⌜ (i < length (now «second_rows»)) × (i < length (now «second_cols»)) × (i < length (now «second_sads»)) ⌝ }
+    ensures { λ r. ⌜ r ≡ differsAt (gridOf (now («first_rows» .entry)) (now («first_cols» .entry)) (now («first_sads» .entry))) (gridOf (now («second_rows» .entry)) (now («second_cols» .entry)) (now («second_sads» .entry))) i ⌝ }
+{
+    let a = stats_at(first_rows, first_cols, first_sads, i);
+    let b = stats_at(second_rows, second_cols, second_sads, i);
+    !same_cell(a, b)
+}
+
+// How many places differ, from one cell on up to another.
+pub fn count_differing(
+    first_rows: &[i16],
+    first_cols: &[i16],
+    first_sads: &[u32],
+    second_rows: &[i16],
+    second_cols: &[i16],
+    second_sads: &[u32],
+    from: usize,
+    to: usize,
+) -> usize
+    requires { ⌜ (to ≤ length (now «first_rows»)) × (to ≤ length (now «first_cols»)) × (to ≤ length (now «first_sads»)) ⌝ }
+    requires { ⌜ (to ≤ length (now «second_rows»)) × (to ≤ length (now «second_cols»)) × (to ≤ length (now «second_sads»)) ⌝ }
+    ensures { λ r. ⌜ r ≡ length (differing (gridOf (now («first_rows» .entry)) (now («first_cols» .entry)) (now («first_sads» .entry))) (gridOf (now («second_rows» .entry)) (now («second_cols» .entry)) (now («second_sads» .entry))) from to) ⌝ }
+{
+    let mut count = 0;
+    let mut i = from;
+    while i < to {
+        if differs_at(
+            first_rows,
+            first_cols,
+            first_sads,
+            second_rows,
+            second_cols,
+            second_sads,
+            i,
+        ) {
+            count += 1;
+        }
+        i += 1;
+    }
+    count
+}
+
+// The first of them, or `to` where there is none.
+pub fn next_differing(
+    first_rows: &[i16],
+    first_cols: &[i16],
+    first_sads: &[u32],
+    second_rows: &[i16],
+    second_cols: &[i16],
+    second_sads: &[u32],
+    from: usize,
+    to: usize,
+) -> usize
+    requires { ⌜ (to ≤ length (now «first_rows»)) × (to ≤ length (now «first_cols»)) × (to ≤ length (now «first_sads»)) ⌝ }
+    requires { ⌜ (to ≤ length (now «second_rows»)) × (to ≤ length (now «second_cols»)) × (to ≤ length (now «second_sads»)) ⌝ }
+    ensures { λ r. ⌜ r ≡ getD (differing (gridOf (now («first_rows» .entry)) (now («first_cols» .entry)) (now («first_sads» .entry))) (gridOf (now («second_rows» .entry)) (now («second_cols» .entry)) (now («second_sads» .entry))) from to) 0 to ⌝ }
+{
+    let mut i = from;
+    while i < to {
+        if differs_at(
+            first_rows,
+            first_cols,
+            first_sads,
+            second_rows,
+            second_cols,
+            second_sads,
+            i,
+        ) {
+            return i;
+        }
+        i += 1;
+    }
+    to
+}

@@ -1,0 +1,2 @@
+-- What the program's own promises speak of.
+pub mod Shaped

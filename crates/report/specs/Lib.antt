@@ -1,0 +1,3 @@
+-- What a reader must believe of a report: its lines.
+pub mod Lines
+pub mod Blocks
