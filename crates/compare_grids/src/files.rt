@@ -3,8 +3,11 @@ use gridfile::read::lockdapple_grid_read;
 use libc::STDOUT_FILENO;
 ghost use Rattle.compare_grids.specs.Shaped.{Shaped};
 
+// The most cells of a file.
+pub(crate) const MOST: usize = 65536;
+
 // The largest file and a byte more, so that one too many is seen.
-pub(crate) const LONGEST: usize = 4 + 10 * 65536 + 1;
+pub(crate) const LONGEST: usize = 4 + 10 * MOST + 1;
 
 // A file that was looked for, and what reading it gave.
 pub(crate) struct Read {

@@ -10,10 +10,13 @@ ghost use Prim.Native.Nat.{_+_, _≤_, _<_};
 ghost use lib.ListN.{length};
 ghost use Rattle.compare_grids.specs.Shaped.{Shaped};
 
+// Room for any line.
+const LINE: usize = 64;
+
 // As many cells as are put before they are written, and room for their lines.
 const BLOCK: usize = 256;
 
-const ROOM: usize = 64 * BLOCK;
+const ROOM: usize = LINE * BLOCK;
 
 // The first n bytes.
 fn write(out: &[u8], n: usize)
@@ -23,13 +26,13 @@ fn write(out: &[u8], n: usize)
 }
 
 fn write_refused(number: u32) {
-    let mut out = [0u8; 64];
+    let mut out = [0u8; LINE];
     let n = put_refused(number, 0, &mut out);
     write(&out, n);
 }
 
 fn write_last(differ: usize, cells: usize) {
-    let mut out = [0u8; 64];
+    let mut out = [0u8; LINE];
     let n = put_last_line(differ as u64, cells as u64, 0, &mut out);
     write(&out, n);
 }

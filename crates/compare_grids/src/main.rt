@@ -9,12 +9,10 @@ mod files;
 mod lines;
 
 use crate::files::LONGEST;
+use crate::files::MOST;
 use crate::files::read_named;
 use crate::lines::compare;
 use libc::STDOUT_FILENO;
-
-// The most cells of a file.
-const MOST: usize = 65536;
 
 // The files that the arguments name, read into what is lent, and then compared.
 fn compare_files(
