@@ -16,13 +16,13 @@ use libc::STDOUT_FILENO;
 
 // The files that the arguments name, read into what is lent, and then compared.
 fn compare_files(
-    file: &mut [u8],
-    first_rows: &mut [i16],
-    first_cols: &mut [i16],
-    first_sads: &mut [u32],
-    second_rows: &mut [i16],
-    second_cols: &mut [i16],
-    second_sads: &mut [u32],
+    file: &mut [u8; LONGEST],
+    first_rows: &mut [i16; MOST],
+    first_cols: &mut [i16; MOST],
+    first_sads: &mut [u32; MOST],
+    second_rows: &mut [i16; MOST],
+    second_cols: &mut [i16; MOST],
+    second_sads: &mut [u32; MOST],
 ) {
     let first = read_named(1, file, first_rows, first_cols, first_sads);
     if !first.opened {
