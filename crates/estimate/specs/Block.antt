@@ -12,18 +12,20 @@ use Rattle.motion.specs.Vector.{zeroV, shlV}
 use Rattle.motion.specs.Level.{levelOf}
 use Rattle.motion.specs.Block.{blockOf}
 use Rattle.sad.specs.Cost.{rdAt}
+use Rattle.points.specs.declared.window.Window.{Window}
+use Rattle.points.specs.Window.{refineWindow}
 use Rattle.search.specs.declared.result.MotionSearchResult.{MotionSearchResult}
-use Rattle.search.specs.declared.full.Window.{Window}
 use Rattle.search.specs.Result.{CostOf, emptyResult, cheaper, tryOne, tryEach}
 use Rattle.search.specs.Diamond.{diamond}
 use Rattle.search.specs.MultiHexagon.{multiHexagon}
-use Rattle.search.specs.Full.{refineWindow, refine}
+use Rattle.search.specs.Full.{refine}
 use Rattle.predict.specs.declared.grid.MEStats.{MEStats}
 use Rattle.predict.specs.declared.predictors.MotionEstimationSubsets.{MotionEstimationSubsets}
 use Rattle.predict.specs.Grid.{Grid, cellAt, storedAt}
 use Rattle.predict.specs.Slots.{slots}
 use Rattle.predict.specs.Predictors.{subsetsOf}
-use Rattle.estimate.specs.Inputs.{Inputs, Previous}
+use Rattle.predict.specs.Previous.{Previous}
+use Rattle.estimate.specs.Inputs.{Inputs}
 
 -- both lists of a predictor record are in five slots
 pub record Listed (p : MotionEstimationSubsets) : Type 0 where

@@ -1,13 +1,10 @@
 -- What a block, a step and a level work with besides the grid.
-use mathlib.Core.Path.{_≡_}
-use mathlib.Core.Bool.{Bool, true}
 use mathlib.Core.List.{List}
 use Prim.Native.Nat.{ℕ, _*_, _≤_}
 use lib.ListN.{length}
 use Rattle.motion.specs.Frame.{Side}
 use Rattle.motion.specs.Level.{levelOf}
 use Rattle.motion.specs.Block.{planeOf}
-use Rattle.predict.specs.Grid.{Grid, Held}
 
 -- the frame, the level, the current and the reference plane of that level, and the weight
 pub record Inputs : Type 0 where
@@ -21,14 +18,6 @@ pub record Inputs : Type 0 where
 abbrev pub inputsOf : ℕ → ℕ → ℕ → List ℕ → List ℕ → ℕ → Inputs
 inputsOf width height level cur ref weight =
     record { width = width; height = height; level = level; cur = cur; ref = ref; weight = weight }
-
--- a previous frame's grid, or its absence
-pub record Previous : Type 0 where
-  pub present : Bool
-  pub grid : Grid
-
-abbrev pub previousOf : Bool → Grid → Previous
-previousOf present grid = record { present = present; grid = grid }
 
 -- the levels
 pub data Leveled : ℕ → Type 0 where
@@ -48,7 +37,3 @@ pub record Ready (i : Inputs) : Type 0 where
   pub leveled : Leveled (i .level)
   pub cur : PlaneHeld (i .width) (i .height) (i .level) (i .cur)
   pub ref : PlaneHeld (i .width) (i .height) (i .level) (i .ref)
-
--- a previous grid that is said to be present holds the frame's cells
-abbrev pub HeldIf : ℕ → ℕ → Previous → Type 0
-HeldIf width height p = p .present ≡ true → Held width height (p .grid)

@@ -6,7 +6,8 @@ use native.Mathlib.Numerals.{add-one}
 use lib.ListN.{length, take, getD}
 use lib.Seq.{take-suc}
 use Rattle.predict.specs.Grid.{Grid, Held}
-use Rattle.estimate.specs.Inputs.{Inputs, Previous}
+use Rattle.predict.specs.Previous.{Previous}
+use Rattle.estimate.specs.Inputs.{Inputs}
 use Rattle.frame.specs.Step.{step}
 use Rattle.frame.specs.Run.{levelRun}
 use Rattle.frame.proofs.StepLaws.{AsLong, long-none, long-more, held-long, step-long}

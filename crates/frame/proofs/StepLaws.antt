@@ -14,10 +14,11 @@ use Rattle.motion.specs.Level.{levelOf}
 use Rattle.motion.specs.Block.{blockOf}
 use Rattle.motion.specs.Superblock.{superblocks}
 use Rattle.motion.proofs.EveryLaws.{below-at}
-use Rattle.search.specs.Full.{refineWindow, windowOk}
+use Rattle.points.specs.Window.{refineWindow, windowOk}
 use Rattle.predict.specs.declared.grid.MEStats.{MEStats}
 use Rattle.predict.specs.Grid.{Grid, Held, cellAt, statsAt}
-use Rattle.estimate.specs.Inputs.{Inputs, Previous}
+use Rattle.predict.specs.Previous.{Previous}
+use Rattle.estimate.specs.Inputs.{Inputs}
 use Rattle.estimate.specs.Save.{covers, saveBlock}
 use Rattle.estimate.specs.Block.{estimateMotion, firstStored, windowAt, refineMotion}
 use Rattle.frame.specs.Step.{blockCount, blockX, blockY, worked, refinedCount, windowsOk, refinements, estimates, step}

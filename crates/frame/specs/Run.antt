@@ -4,7 +4,8 @@ use mathlib.Core.Bool.{cond}
 use mathlib.Core.List.{List, [], _∷_}
 use lib.Dec.{eqb}
 use Rattle.predict.specs.Grid.{Grid}
-use Rattle.estimate.specs.Inputs.{Inputs, Previous, inputsOf}
+use Rattle.predict.specs.Previous.{Previous}
+use Rattle.estimate.specs.Inputs.{Inputs, inputsOf}
 use Rattle.frame.specs.Step.{step}
 
 -- six planes are lent: current and reference at full, half and quarter size

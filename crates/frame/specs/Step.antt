@@ -8,10 +8,11 @@ use Rattle.motion.specs.Limits.{cellSide, superblockSide}
 use Rattle.motion.specs.Level.{levelOf}
 use Rattle.motion.specs.Superblock.{superblockX, superblockY}
 use Rattle.motion.specs.Every.{allBelow}
-use Rattle.search.specs.Full.{windowOk}
+use Rattle.points.specs.Window.{windowOk}
 use Rattle.predict.specs.declared.grid.MEStats.{MEStats}
 use Rattle.predict.specs.Grid.{Grid}
-use Rattle.estimate.specs.Inputs.{Inputs, Previous}
+use Rattle.predict.specs.Previous.{Previous}
+use Rattle.estimate.specs.Inputs.{Inputs}
 use Rattle.estimate.specs.Save.{saveBlock}
 use Rattle.estimate.specs.Block.{estimateMotion, windowAt, refineMotion}
 

@@ -5,7 +5,8 @@ ghost use lib.ListN.{length, getD};
 ghost use Rattle.motion.specs.Frame.{Side};
 ghost use Rattle.motion.specs.Superblock.{superblocks};
 ghost use Rattle.predict.specs.Grid.{Held, gridOf};
-ghost use Rattle.estimate.specs.Inputs.{Ready, PlaneHeld, HeldIf, inputsOf, previousOf};
+ghost use Rattle.predict.specs.Previous.{HeldIf, previousOf};
+ghost use Rattle.estimate.specs.Inputs.{Ready, PlaneHeld, inputsOf};
 ghost use Rattle.frame.specs.Run.{planesOf, levelRun, frameRun};
 
 // Every superblock of a list at one level, in list order.

@@ -13,7 +13,8 @@ ghost use Rattle.motion.specs.Frame.{Side};
 ghost use Rattle.motion.specs.Limits.{largestSide, cellSide, superblockSide};
 ghost use Rattle.motion.specs.Superblock.{superblocks};
 ghost use Rattle.predict.specs.Grid.{Held, cells, gridOf};
-ghost use Rattle.estimate.specs.Inputs.{Ready, Leveled, HeldIf, inputsOf, previousOf};
+ghost use Rattle.predict.specs.Previous.{HeldIf, previousOf};
+ghost use Rattle.estimate.specs.Inputs.{Ready, Leveled, inputsOf};
 ghost use Rattle.frame.specs.Step.{blocksAlong, blockCount, blockX, blockY, refinedCount, windowsOk, refinements, estimates, step};
 
 // How many blocks of a size lie along a side of the superblock whose first cell is b.

@@ -1,5 +1,3 @@
 -- Laws that several proofs cite.
-pub mod OpenedLaws
-pub mod AnswerLaws
 pub mod ReadyLaws
 pub mod OutcomeLaws

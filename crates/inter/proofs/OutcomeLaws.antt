@@ -1,22 +1,19 @@
--- What a step, a run and a call for predictors answer: after a refusal its number and the grid as it stood, else what is defined.
--- Assumes nothing.
-use mathlib.Core.Path.{_≡_, sym, ap, _∙_}
+-- What a step and a run answer: after a refusal its number and the grid as it stood, else what is defined. Assumes nothing.
+use mathlib.Core.Path.{_≡_, sym, _∙_}
 use mathlib.Core.Bool.{true, false}
 use mathlib.Core.List.{List}
 use Prim.Native.Nat.{ℕ}
 use native.Mathlib.Omega.{arith}
 use borrow.Author.Tests.{eq-eqb, ne-eqb}
 use Rattle.motion.specs.Superblock.{superblocksAlong}
-use Rattle.predict.specs.declared.predictors.MotionEstimationSubsets.{MotionEstimationSubsets}
 use Rattle.predict.specs.Grid.{Grid}
+use Rattle.predict.specs.Previous.{previous}
 use Rattle.order.specs.List.{listRefusal}
 use Rattle.estimate.specs.Inputs.{inputsOf}
 use Rattle.frame.specs.Step.{windowsOk, step}
 use Rattle.frame.specs.Run.{Planes, frameRun}
 use Rattle.refusal.specs.Tests.{refuse, _then_}
 use Rattle.refusal.proofs.RefusalLaws.{first-is, then-later}
-use Rattle.inter.specs.Grids.{previous}
-use Rattle.inter.specs.Predicting.{refusedPredictors, predictorsWith}
 use Rattle.inter.specs.Steps.{stepTests, stepRefusal, stepGrid}
 use Rattle.inter.specs.Runs.{runTests, runRefusal, runGrid}
 
@@ -71,8 +68,3 @@ module _ (width height : ℕ) (cur ref : Planes) (present : ℕ) (prev : Grid) (
   run-done tests listed e =
       let none : runRefusal width height cur ref present prev list g ≡ 0 = then-later _ _ tests ∙ listed in
       (sym none, e ∙ rw (eq-eqb _ 0 none))
-
--- the record of predictors of a number that is not 0
-pub predictors-refused : {code : ℕ} (number : ℕ) (p : MotionEstimationSubsets) → code ≡ number → (code ≡ 0 → ⊥) → refusedPredictors code ≡ predictorsWith number p
-unfolding predictorsWith
-predictors-refused number p e h = ap refusedPredictors e ∙ rw (ne-eqb number 0 (λ z. h (e ∙ z)))

@@ -1,6 +1,6 @@
--- What a step, a run and a call for predictors that are not refused may count on. Assumes nothing.
+-- What a step and a run that are not refused may count on. Assumes nothing.
 use mathlib.Core.Path.{_≡_, sym, subst}
-use mathlib.Core.Bool.{Bool, true, false, not, _&&_, _||_}
+use mathlib.Core.Bool.{true, _&&_, _||_}
 use mathlib.Core.Logic.{⊎-elim}
 use mathlib.Core.List.{List}
 use Prim.Native.Nat.{ℕ, _*_, _<_, _≤_}
@@ -12,14 +12,14 @@ use lib.ListN.{length, getD}
 use Rattle.motion.specs.Frame.{Side}
 use Rattle.motion.specs.Superblock.{superblocksAlong, superblocks}
 use Rattle.motion.proofs.TestLaws.{both, either}
-use Rattle.predict.specs.Grid.{Grid, Held}
+use Rattle.predict.specs.Grid.{Grid}
 use Rattle.order.specs.List.{mostSuperblocks, listRefusal}
 use Rattle.order.proofs.Accepted.{accepted}
-use Rattle.estimate.specs.Inputs.{Leveled, PlaneHeld, Ready, HeldIf, inputsOf, four, three, two}
+use Rattle.estimate.specs.Inputs.{Leveled, PlaneHeld, Ready, inputsOf, four, three, two}
 use Rattle.frame.specs.Run.{Planes, planeAt}
-use Rattle.refusal.specs.Tests.{refuse, _then_, sideOk, levelOk, planesRefusal, gridHolds}
-use Rattle.refusal.proofs.RefusalLaws.{first-passed, passes, none-of, side-of, lent, held}
-use Rattle.inter.specs.Grids.{gridsHold, previous}
+use Rattle.refusal.specs.Tests.{refuse, _then_, sideOk, levelOk, planesRefusal, gridsHold}
+use Rattle.refusal.proofs.RefusalLaws.{first-passed, passes, none-of, side-of, lent}
+use Rattle.refusal.proofs.GridsLaws.{GridsHeld, grids-held}
 use Rattle.inter.specs.Steps.{stepTests}
 use Rattle.inter.specs.Runs.{lentRefusal, runTests}
 
@@ -35,24 +35,6 @@ leveled-of level h =
   where
     at : (n : ℕ) → eqb level n ≡ true → Leveled n → Leveled level
     at n e l = subst Leveled (sym (eqb-true level n e)) l
-
--- what number 5 leaves: the grid, and a previous grid that is said to be present, hold the frame's cells
-pub record GridsHeld (width height present : ℕ) (prev g : Grid) : Type 0 where
-  pub before : HeldIf width height (previous present prev)
-  pub held : Held width height g
-
-pub grids-held : (width height present : ℕ) (prev g : Grid) → gridsHold width height present prev g ≡ true → GridsHeld width height present prev g
-unfolding gridsHold previous
-grids-held width height present prev g e =
-    let parts = both (gridHolds width height g) (eqb present 0 || gridHolds width height prev) e in
-    record {
-      before = λ p. held width height prev (asked (eqb present 0) (gridHolds width height prev) (parts .1) p);
-      held = held width height g (parts .0);
-    }
-  where
-    asked : (s t : Bool) → s || t ≡ true → not s ≡ true → t ≡ true
-    asked true t e p = absurd (let z : _≡_ {A = ℕ} 0 1 = cc in omega arith)
-    asked false t e p = e
 
 -- what numbers 1 to 5 leave of a step
 pub record StepReady (width height level n : ℕ) (cur ref : List ℕ) (present : ℕ) (prev g : Grid) : Type 0 where

@@ -1,10 +1,3 @@
--- What a reader must believe of the entry points: their refusals and their answers.
-pub mod Found
-pub mod Call
-pub mod Leaves
-pub mod Searches
-pub mod Refinement
-pub mod Grids
-pub mod Predicting
+-- What a reader must believe of the entry points on a frame: their refusals and their answers.
 pub mod Steps
 pub mod Runs

@@ -6,10 +6,10 @@ use lib.Dec.{eqb}
 use lib.ListN.{length}
 use Rattle.motion.specs.Superblock.{superblocksAlong}
 use Rattle.predict.specs.Grid.{Grid}
+use Rattle.predict.specs.Previous.{previous}
 use Rattle.frame.specs.Run.{Planes, planeAt, frameRun}
 use Rattle.order.specs.List.{listRefusal}
-use Rattle.refusal.specs.Tests.{refuse, _then_, sideOk, planesRefusal}
-use Rattle.inter.specs.Grids.{gridsHold, previous}
+use Rattle.refusal.specs.Tests.{refuse, _then_, sideOk, planesRefusal, gridsHold}
 
 -- 4: the two planes of a level
 unfoldable pub lentRefusal : ℕ → ℕ → Planes → Planes → ℕ → ℕ

@@ -1,7 +1,7 @@
-use crate::grids::grids_hold;
 use frame::run::frame_run;
 use motion::superblock::superblocks_along;
 use order::list::list_refusal;
+use refusal::tests::grids_hold;
 use refusal::tests::planes_refusal;
 use refusal::tests::side_ok;
 ghost use mathlib.Core.Path.{_≡_};

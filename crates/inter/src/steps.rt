@@ -1,6 +1,6 @@
-use crate::grids::grids_hold;
 use frame::step::superblock_step;
 use motion::superblock::superblocks_of;
+use refusal::tests::grids_hold;
 use refusal::tests::level_ok;
 use refusal::tests::planes_refusal;
 use refusal::tests::side_ok;

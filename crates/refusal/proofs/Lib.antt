@@ -1,2 +1,3 @@
 -- Laws that several proofs and other crates cite.
 pub mod RefusalLaws
+pub mod GridsLaws

@@ -63,3 +63,7 @@ gridOk width height rows cols sads =
 -- the same of a grid's own three buffers
 unfoldable pub gridHolds : ℕ → ℕ → Grid → Bool
 gridHolds width height g = gridOk width height (length (g .rows)) (length (g .cols)) (length (g .sads))
+
+-- 5: the grid the call uses, or a previous grid said to be present, is too short; `present` is 0 for an absent one
+unfoldable pub gridsHold : ℕ → ℕ → ℕ → Grid → Grid → Bool
+gridsHold width height present prev g = gridHolds width height g && (eqb present 0 || gridHolds width height prev)

@@ -3,8 +3,9 @@ use motion::level::level_of;
 ghost use mathlib.Core.Path.{_≡_};
 ghost use Prim.Native.Nat.{_≤_};
 ghost use lib.ListN.{length};
-ghost use Rattle.refusal.specs.Tests.{sideOk, levelOk, sizeOf, startOk, planeOk, blockRefusal, planesRefusal, callRefusal, gridOk};
+ghost use Rattle.refusal.specs.Tests.{sideOk, levelOk, sizeOf, startOk, planeOk, blockRefusal, planesRefusal, callRefusal, gridOk, gridsHold};
 ghost use Rattle.motion.specs.Limits.{largestSide};
+ghost use Rattle.predict.specs.Grid.{gridOf};
 
 const LARGEST_SIDE: usize = 1024;
 
@@ -147,4 +148,34 @@ pub fn grid_ok(width: usize, height: usize, rows: usize, cols: usize, sads: usiz
         return false;
     }
     cells <= sads
+}
+
+// The test of number 5: the grid, and a previous one that is said to be present.
+pub fn grids_hold(
+    width: usize,
+    height: usize,
+    present: usize,
+    prev_rows: &[i16],
+    prev_cols: &[i16],
+    prev_sads: &[u32],
+    rows: &[i16],
+    cols: &[i16],
+    sads: &[u32],
+) -> bool
+    requires { ⌜ (width ≤ largestSide) × (height ≤ largestSide) ⌝ }
+    ensures { λ r. ⌜ r ≡ gridsHold width height present (gridOf (now («prev_rows» .entry)) (now («prev_cols» .entry)) (now («prev_sads» .entry))) (gridOf (now (rows .entry)) (now (cols .entry)) (now (sads .entry))) ⌝ }
+{
+    if !grid_ok(width, height, rows.len(), cols.len(), sads.len()) {
+        return false;
+    }
+    if present == 0 {
+        return true;
+    }
+    grid_ok(
+        width,
+        height,
+        prev_rows.len(),
+        prev_cols.len(),
+        prev_sads.len(),
+    )
 }

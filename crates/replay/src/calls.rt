@@ -1,12 +1,12 @@
 use crate::planes::LARGEST_PLANE;
 use crate::planes::fill;
 use crate::planes::padded;
-use inter::found::Found;
-use inter::leaves::lockdapple_candidate;
-use inter::refinement::lockdapple_refine;
-use inter::searches::lockdapple_diamond;
-use inter::searches::lockdapple_hexagon;
-use inter::searches::lockdapple_multi_hexagon;
+use single::found::Found;
+use single::leaves::lockdapple_candidate;
+use single::refinement::lockdapple_refine;
+use single::searches::lockdapple_diamond;
+use single::searches::lockdapple_hexagon;
+use single::searches::lockdapple_multi_hexagon;
 ghost use Prim.Native.Nat.{_≤_, _<_};
 ghost use Rattle.replay.specs.Call.{Drawable};
 

@@ -11,9 +11,9 @@ use crate::sample::CONTENTS;
 use crate::sample::SEEDS;
 use crate::tally::Outcome;
 use crate::tally::equal_if;
-use inter::found::Found;
-use inter::leaves::lockdapple_range;
-use inter::leaves::lockdapple_rate;
+use single::found::Found;
+use single::leaves::lockdapple_range;
+use single::leaves::lockdapple_rate;
 ghost use Prim.Native.Nat.{_≤_};
 
 // Weights and SADs are words of 32 bits, of which there are this many.

@@ -6,7 +6,7 @@ use native.Mathlib.Omega.{arith}
 use borrow.Author.Tests.{lt-ltb, le-ltb, ltb-true}
 use lib.Dec.{ltb}
 use Rattle.motion.specs.declared.vector.MotionVector.{MotionVector}
-use Rattle.search.specs.declared.patterns.Pattern.the-variants.{Diamond}
+use Rattle.points.specs.declared.patterns.Pattern.the-variants.{Diamond}
 use Rattle.search.specs.declared.result.MotionSearchResult.{MotionSearchResult}
 use Rattle.search.specs.Result.{CostOf, emptyResult}
 use Rattle.search.specs.Diamond.{diamondBest, diamondFrom, diamondAt, diamond}

@@ -14,20 +14,22 @@ use Rattle.sad.specs.Plane.{Measured}
 use Rattle.sad.specs.Cost.{emptyRd, rdAt}
 use Rattle.sad.proofs.Sums.{Under}
 use Rattle.sad.proofs.CostLaws.{in-range-most}
+use Rattle.points.specs.declared.window.Span.{Span}
+use Rattle.points.specs.declared.patterns.Pattern.{Pattern}
+use Rattle.points.specs.Window.{spanAt, refineWindow}
+use Rattle.points.proofs.WindowLaws.{window-in-range}
 use Rattle.search.specs.declared.result.MotionSearchResult.{MotionSearchResult}
-use Rattle.search.specs.declared.full.Span.{Span}
-use Rattle.search.specs.declared.patterns.Pattern.{Pattern}
 use Rattle.search.specs.Result.{emptyResult, cheaper, tryOne, tryEach, tryPattern}
 use Rattle.search.specs.Diamond.{diamond}
 use Rattle.search.specs.Hexagon.{hexagon}
 use Rattle.search.specs.MultiHexagon.{multiHexagon}
-use Rattle.search.specs.Full.{spanAt, rowOf, windowTo, fullSearch, refineWindow, refine}
+use Rattle.search.specs.Full.{rowOf, windowTo, fullSearch, refine}
 use Rattle.search.proofs.ResultLaws.{mostCost, Kept, kept-cheaper, kept-each, kept-pattern}
 use Rattle.search.proofs.DiamondLaws.{kept-diamond}
 use Rattle.search.proofs.HexagonLaws.{kept-hexagon}
 use Rattle.search.proofs.InRange.{Ranged, ranged}
 use Rattle.search.proofs.MultiHexagonLaws.{kept-multi}
-use Rattle.search.proofs.WindowLaws.{window-in-range, least-window}
+use Rattle.search.proofs.FullLaws.{least-window}
 use Rattle.search.proofs.HandsBack.{Own}
 
 module _ (b : Block) (cur ref : List ℕ) (weight : ℕ) where

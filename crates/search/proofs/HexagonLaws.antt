@@ -7,10 +7,10 @@ use native.Mathlib.Omega.{arith}
 use borrow.Author.Tests.{lt-ltb, le-ltb, ltb-true}
 use lib.Dec.{ltb}
 use Rattle.motion.specs.declared.vector.MotionVector.{MotionVector}
+use Rattle.points.specs.declared.patterns.Pattern.the-variants.{Square}
+use Rattle.points.specs.Patterns.{hexagonPoint}
 use Rattle.search.specs.declared.result.MotionSearchResult.{MotionSearchResult}
 use Rattle.search.specs.declared.hexagon.HexCand.{HexCand}
-use Rattle.search.specs.declared.patterns.Pattern.the-variants.{Square}
-use Rattle.search.specs.Patterns.{hexagonPoint}
 use Rattle.search.specs.Result.{CostOf, emptyResult, cheaper, tryPattern}
 use Rattle.search.specs.Hexagon.{tryIndex, triedTo, hexagonSix, hexagonThree, hexagonFrom, hexagonAt, squareRound, hexagon}
 use Rattle.search.proofs.ResultLaws.{mostCost, Sound, sound-empty, sound-cheaper, sound-pattern, Kept, kept-cheaper}

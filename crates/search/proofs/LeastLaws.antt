@@ -7,11 +7,11 @@ use native.Mathlib.Omega.{arith}
 use borrow.Author.Tests.{ltb-true, ltb-false}
 use lib.Dec.{ltb}
 use Rattle.motion.specs.declared.vector.MotionVector.{MotionVector}
+use Rattle.points.specs.declared.patterns.Pattern.{Pattern}
+use Rattle.points.specs.declared.patterns.Pattern.the-variants.{Square, RowLine, ColLine, Eighths, Umh}
+use Rattle.points.specs.Patterns.{points, pointOf}
 use Rattle.search.specs.declared.result.MotionSearchResult.{MotionSearchResult}
 use Rattle.search.specs.declared.hexagon.HexCand.{HexCand}
-use Rattle.search.specs.declared.patterns.Pattern.{Pattern}
-use Rattle.search.specs.declared.patterns.Pattern.the-variants.{Square, RowLine, ColLine, Eighths, Umh}
-use Rattle.search.specs.Patterns.{points, pointOf}
 use Rattle.search.specs.Result.{CostOf, emptyResult, cheaper, tryOne, tryEach, tryPattern}
 use Rattle.search.specs.Diamond.{diamondBest, diamondFrom, diamondAt, diamond}
 use Rattle.search.specs.Hexagon.{hexagonSix, hexagonThree, hexagonFrom, hexagonAt, squareRound, hexagon}

@@ -1,8 +1,8 @@
 -- What holds of the record of every vector in range holds of all that the stages of the multi-hexagon hand on. Assumes nothing.
 use Prim.Native.Nat.{_<_}
 use Rattle.motion.specs.declared.vector.MotionVector.{MotionVector}
+use Rattle.points.specs.declared.patterns.Pattern.the-variants.{RowLine, ColLine, Eighths, Umh}
 use Rattle.search.specs.declared.result.MotionSearchResult.{MotionSearchResult}
-use Rattle.search.specs.declared.patterns.Pattern.the-variants.{RowLine, ColLine, Eighths, Umh}
 use Rattle.search.specs.Result.{CostOf}
 use Rattle.search.specs.MultiHexagon.{cross, eighthsSquare, rings, multiHexagon}
 use Rattle.search.proofs.ResultLaws.{mostCost, Kept, kept-pattern}

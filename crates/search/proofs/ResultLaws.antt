@@ -9,9 +9,9 @@ use lib.Dec.{ltb}
 use Rattle.motion.specs.declared.vector.MotionVector.{MotionVector}
 use Rattle.sad.specs.declared.rd.MVCandidateRD.{MVCandidateRD}
 use Rattle.sad.specs.Cost.{emptyRd}
+use Rattle.points.specs.declared.patterns.Pattern.{Pattern}
+use Rattle.points.specs.Patterns.{points, pointOf}
 use Rattle.search.specs.declared.result.MotionSearchResult.{MotionSearchResult}
-use Rattle.search.specs.declared.patterns.Pattern.{Pattern}
-use Rattle.search.specs.Patterns.{points, pointOf}
 use Rattle.search.specs.Result.{CostOf, emptyResult, cheaper, tryOne, tryEach, tryPattern}
 
 -- a loop that has tried i candidates tries one more

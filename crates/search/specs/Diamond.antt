@@ -3,8 +3,8 @@ use mathlib.Core.Bool.{cond}
 use Prim.Native.Nat.{ℕ, zero, suc, _+_}
 use lib.Dec.{ltb}
 use Rattle.motion.specs.declared.vector.MotionVector.{MotionVector}
+use Rattle.points.specs.declared.patterns.Pattern.the-variants.{Diamond}
 use Rattle.search.specs.declared.result.MotionSearchResult.{MotionSearchResult}
-use Rattle.search.specs.declared.patterns.Pattern.the-variants.{Diamond}
 use Rattle.search.specs.Result.{CostOf, emptyResult, tryPattern}
 
 -- the cheapest of the four points, at a radius of 2 ^ r pixels

@@ -3,10 +3,10 @@ use mathlib.Core.Bool.{cond}
 use Prim.Native.Nat.{ℕ, zero, suc, _+_, _%_}
 use lib.Dec.{ltb}
 use Rattle.motion.specs.declared.vector.MotionVector.{MotionVector}
+use Rattle.points.specs.declared.patterns.Pattern.the-variants.{Square}
+use Rattle.points.specs.Patterns.{hexagonPoint}
 use Rattle.search.specs.declared.result.MotionSearchResult.{MotionSearchResult}
 use Rattle.search.specs.declared.hexagon.HexCand.{HexCand}
-use Rattle.search.specs.declared.patterns.Pattern.the-variants.{Square}
-use Rattle.search.specs.Patterns.{hexagonPoint}
 use Rattle.search.specs.Result.{CostOf, emptyResult, cheaper, tryPattern}
 
 -- point i of the hexagon against the cheapest so far of a round

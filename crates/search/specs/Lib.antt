@@ -1,5 +1,4 @@
 -- What a reader must believe of the searches.
-pub mod Patterns
 pub mod Result
 pub mod Diamond
 pub mod Hexagon

@@ -1,6 +1,6 @@
 -- Uneven multi-hexagon, reach 24. Within a stage the best changes but the centre doesn't.
+use Rattle.points.specs.declared.patterns.Pattern.the-variants.{RowLine, ColLine, Eighths, Umh}
 use Rattle.search.specs.declared.result.MotionSearchResult.{MotionSearchResult}
-use Rattle.search.specs.declared.patterns.Pattern.the-variants.{RowLine, ColLine, Eighths, Umh}
 use Rattle.search.specs.Result.{CostOf, tryPattern}
 use Rattle.search.specs.Hexagon.{hexagon}
 

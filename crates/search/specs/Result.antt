@@ -6,8 +6,8 @@ use Rattle.motion.specs.declared.vector.MotionVector.{MotionVector}
 use Rattle.motion.specs.Vector.{zeroV}
 use Rattle.sad.specs.declared.rd.MVCandidateRD.{MVCandidateRD}
 use Rattle.sad.specs.Cost.{emptyRd}
-use Rattle.search.specs.declared.patterns.Pattern.{Pattern}
-use Rattle.search.specs.Patterns.{points, pointOf}
+use Rattle.points.specs.declared.patterns.Pattern.{Pattern}
+use Rattle.points.specs.Patterns.{points, pointOf}
 use Rattle.search.specs.declared.result.MotionSearchResult.{MotionSearchResult}
 
 -- what each vector costs

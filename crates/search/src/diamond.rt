@@ -1,8 +1,8 @@
-use crate::patterns::Pattern;
-use crate::patterns::pattern_point;
 use crate::result::MotionSearchResult;
 use motion::block::Block;
 use motion::vector::MotionVector;
+use points::patterns::Pattern;
+use points::patterns::pattern_point;
 ghost use mathlib.Core.Path.{_≡_};
 ghost use mathlib.Core.Bool.{true};
 ghost use lib.ListN.{length};

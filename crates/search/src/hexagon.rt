@@ -1,9 +1,9 @@
-use crate::patterns::Pattern;
-use crate::patterns::hexagon_point;
 use crate::result::MotionSearchResult;
 use crate::result::try_pattern;
 use motion::block::Block;
 use motion::vector::MotionVector;
+use points::patterns::Pattern;
+use points::patterns::hexagon_point;
 use sad::rd::get_fullpel_mv_rd;
 ghost use mathlib.Core.Path.{_≡_};
 ghost use mathlib.Core.Bool.{true};

@@ -1,7 +1,6 @@
-// The searches: tables of patterns, the record of the best so far, diamond, hexagon, uneven multi-hexagon and full search.
+// The searches: the record of the best so far, diamond, hexagon, uneven multi-hexagon and full search.
 pub mod diamond;
 pub mod full;
 pub mod hexagon;
 pub mod multi_hex;
-pub mod patterns;
 pub mod result;

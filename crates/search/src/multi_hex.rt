@@ -1,8 +1,8 @@
 use crate::hexagon::hexagon_search;
-use crate::patterns::Pattern;
 use crate::result::MotionSearchResult;
 use crate::result::try_pattern;
 use motion::block::Block;
+use points::patterns::Pattern;
 ghost use mathlib.Core.Path.{_≡_};
 ghost use mathlib.Core.Bool.{true};
 ghost use lib.ListN.{length};

@@ -1,8 +1,8 @@
-use crate::patterns::Pattern;
-use crate::patterns::pattern_point;
-use crate::patterns::pattern_points;
 use motion::block::Block;
 use motion::vector::MotionVector;
+use points::patterns::Pattern;
+use points::patterns::pattern_point;
+use points::patterns::pattern_points;
 use sad::plane::org_start;
 use sad::plane::ref_start;
 use sad::rd::MVCandidateRD;
@@ -13,7 +13,7 @@ ghost use lib.ListN.{length};
 ghost use Rattle.sad.specs.Plane.{Lies};
 ghost use Rattle.sad.specs.Cost.{rdAt};
 ghost use Rattle.motion.specs.Vector.{Near};
-ghost use Rattle.search.specs.Patterns.{Plain};
+ghost use Rattle.points.specs.Patterns.{Plain};
 ghost use Rattle.search.specs.Result.{emptyResult, cheaper, tryOne, tryPattern};
 
 // The best vector so far, with its cost and sum of absolute differences.

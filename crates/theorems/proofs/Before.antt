@@ -18,7 +18,8 @@ use Rattle.motion.specs.Every.{allBelow}
 use Rattle.predict.specs.Grid.{Grid, Held, cells, cellAt, statsAt}
 use Rattle.predict.specs.Sampled.{cellsAlong, taken, neighbours, oddBlock, cellsB, cellsCentre}
 use Rattle.predict.proofs.InsideLaws.{cell-inside}
-use Rattle.estimate.specs.Inputs.{Previous, three, two, inputsOf}
+use Rattle.predict.specs.Previous.{Previous}
+use Rattle.estimate.specs.Inputs.{three, two, inputsOf}
 use Rattle.estimate.specs.Save.{saveBlock}
 use Rattle.estimate.specs.Block.{estimateMotion}
 use Rattle.estimate.proofs.SaveLaws.{true-up-to, covers-at}

@@ -10,7 +10,8 @@ use Rattle.motion.specs.Superblock.{superblocksAlong, superblocks}
 use Rattle.motion.proofs.TestLaws.{tested, not-so}
 use Rattle.predict.specs.declared.grid.MEStats.{MEStats}
 use Rattle.predict.specs.Grid.{Grid, storedAt, statsAt}
-use Rattle.estimate.specs.Inputs.{Inputs, Previous}
+use Rattle.predict.specs.Previous.{Previous}
+use Rattle.estimate.specs.Inputs.{Inputs}
 use Rattle.frame.specs.Step.{step}
 use Rattle.frame.proofs.StepLaws.{AsLong, long-more, step-long}
 use Rattle.order.specs.List.{sharesEdge}

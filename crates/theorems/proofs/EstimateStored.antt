@@ -22,7 +22,8 @@ use Rattle.predict.specs.Grid.{Grid, Held, cellAt, statsAt}
 use Rattle.predict.specs.Predictors.{subsetsOf}
 use Rattle.predict.proofs.InsideLaws.{cell-inside}
 use Rattle.predict.proofs.SubsetLaws.{subsets-sound}
-use Rattle.estimate.specs.Inputs.{Inputs, Previous, Ready}
+use Rattle.predict.specs.Previous.{Previous}
+use Rattle.estimate.specs.Inputs.{Inputs, Ready}
 use Rattle.estimate.specs.Save.{upTo, covers, saveBlock}
 use Rattle.estimate.specs.Block.{blockIn, costIn, fullPixelMe, statsOf, estimateMotion}
 use Rattle.estimate.proofs.BlockFacts.{own-sized, block-lies, block-zero, fullPixelMe-settled}

@@ -12,11 +12,12 @@ use Rattle.motion.specs.Level.{levelOf}
 use Rattle.motion.specs.Superblock.{superblocks}
 use Rattle.motion.proofs.TestLaws.{tested}
 use Rattle.motion.proofs.EveryLaws.{below-same}
-use Rattle.search.specs.Full.{windowOk}
+use Rattle.points.specs.Window.{windowOk}
 use Rattle.predict.specs.declared.grid.MEStats.{MEStats}
 use Rattle.predict.specs.Grid.{Grid, Held, cells, cellAt, statsAt}
 use Rattle.predict.proofs.InsideLaws.{cell-inside, b-inside, centre-inside}
-use Rattle.estimate.specs.Inputs.{Inputs, Previous, Leveled}
+use Rattle.predict.specs.Previous.{Previous}
+use Rattle.estimate.specs.Inputs.{Inputs, Leveled}
 use Rattle.estimate.specs.Save.{covers, saveBlock}
 use Rattle.estimate.specs.Block.{estimateMotion, refineMotion}
 use Rattle.estimate.proofs.SaveLaws.{held-block, block-inside, block-outside}

@@ -6,7 +6,8 @@ use Prim.Native.Nat.{ℕ, _<_}
 use Rattle.motion.specs.Frame.{Side}
 use Rattle.motion.specs.Superblock.{superblocksAlong, superblocks}
 use Rattle.predict.specs.Grid.{Grid}
-use Rattle.estimate.specs.Inputs.{Inputs, Previous}
+use Rattle.predict.specs.Previous.{Previous}
+use Rattle.estimate.specs.Inputs.{Inputs}
 use Rattle.frame.specs.Step.{step}
 use Rattle.frame.specs.Run.{levelRun, inputsAt, frameRun}
 use Rattle.order.specs.List.{sharesEdge, raster}

@@ -10,7 +10,8 @@ use Rattle.motion.specs.Limits.{cellSide}
 use Rattle.motion.specs.Frame.{Side}
 use Rattle.predict.specs.declared.grid.MEStats.{MEStats}
 use Rattle.predict.specs.Grid.{Grid, cells, statsAt}
-use Rattle.estimate.specs.Inputs.{Inputs, Previous}
+use Rattle.predict.specs.Previous.{Previous}
+use Rattle.estimate.specs.Inputs.{Inputs}
 use Rattle.estimate.specs.Save.{upTo, covers}
 use Rattle.estimate.proofs.SaveLaws.{block-outside}
 use Rattle.frame.specs.Step.{blockX, blockY, worked, windowsOk, refinements, estimates, step}

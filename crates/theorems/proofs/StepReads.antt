@@ -14,10 +14,11 @@ use Rattle.motion.specs.Frame.{Side}
 use Rattle.motion.specs.Superblock.{superblocks}
 use Rattle.motion.proofs.TestLaws.{tested, not-so}
 use Rattle.motion.proofs.EveryLaws.{below-same}
+use Rattle.points.specs.Window.{windowOk}
 use Rattle.predict.specs.declared.grid.MEStats.{MEStats}
-use Rattle.search.specs.Full.{windowOk}
 use Rattle.predict.specs.Grid.{Grid, cellAt, storedAt, statsAt}
-use Rattle.estimate.specs.Inputs.{Inputs, Previous}
+use Rattle.predict.specs.Previous.{Previous}
+use Rattle.estimate.specs.Inputs.{Inputs}
 use Rattle.estimate.specs.Save.{replace, saveWhere, covers, saveBlock}
 use Rattle.estimate.specs.Block.{estimateMotion, refineMotion}
 use Rattle.estimate.proofs.SaveLaws.{length-replace, getD-replace, block-outside}

@@ -21,8 +21,8 @@ use Rattle.motion.proofs.Words.{shr-fits, eighth-bounds}
 use Rattle.motion.proofs.RangeLaws.{within-parts, in-range-parts}
 use Rattle.motion.proofs.AxisLaws.{fitting, start-inside, crop-most, low-is, high-is}
 use Rattle.motion.proofs.BlockLaws.{Ends, straddles, shl-fits}
-use Rattle.search.specs.Full.{larger, smaller, spanCount, refineSpan, refineWindow, windowOk}
-use Rattle.search.proofs.SpanLaws.{word-small, larger-is, smaller-is, reach, lo-size, hi-size}
+use Rattle.points.specs.Window.{larger, smaller, spanCount, refineSpan, refineWindow, windowOk}
+use Rattle.points.proofs.SpanLaws.{word-small, larger-is, smaller-is, reach, lo-size, hi-size}
 
 -- division by 8 toward zero keeps order
 quot-keeps : (a b : ℤ) → Small a → Small b → bias a ≤ bias b → bias (quotZ a (pos 8)) ≤ bias (quotZ b (pos 8))

@@ -11,10 +11,11 @@ use Rattle.motion.specs.Frame.{Side, Starts}
 use Rattle.motion.specs.Block.{blockOf}
 use Rattle.motion.specs.Superblock.{superblocks}
 use Rattle.motion.proofs.EveryLaws.{below-of}
-use Rattle.search.specs.Full.{refineWindow, windowOk}
+use Rattle.points.specs.Window.{refineWindow, windowOk}
 use Rattle.predict.specs.declared.grid.MEStats.{MEStats}
 use Rattle.predict.specs.Grid.{Grid, Held, cellAt, statsAt}
-use Rattle.estimate.specs.Inputs.{Previous, inputsOf}
+use Rattle.predict.specs.Previous.{Previous}
+use Rattle.estimate.specs.Inputs.{inputsOf}
 use Rattle.estimate.specs.Block.{firstStored, windowAt}
 use Rattle.frame.specs.Step.{blockCount, blockX, blockY, refinedCount, windowsOk, estimates}
 use Rattle.frame.proofs.GeometryLaws.{Tabled, thirty-two, sixty-four, placed}

@@ -12,7 +12,8 @@ use Rattle.motion.specs.Frame.{Side}
 use Rattle.motion.specs.Superblock.{superblocksAlong, superblocks, superblockX, superblockY}
 use Rattle.motion.proofs.TestLaws.{both, not-so}
 use Rattle.predict.specs.Grid.{Grid, Held, cellAt, statsAt}
-use Rattle.estimate.specs.Inputs.{Inputs, Previous, inputsOf}
+use Rattle.predict.specs.Previous.{Previous}
+use Rattle.estimate.specs.Inputs.{Inputs, inputsOf}
 use Rattle.estimate.specs.Save.{upTo}
 use Rattle.estimate.proofs.SaveLaws.{up-to-true, covers-at}
 use Rattle.frame.specs.Step.{blocksAlong, blockCount, blockX, blockY, refinements, estimates, step}

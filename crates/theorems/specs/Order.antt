@@ -7,11 +7,11 @@ use lib.ListN.{getD}
 use Rattle.motion.specs.Frame.{Side}
 use Rattle.motion.specs.Superblock.{superblocksAlong, superblocks}
 use Rattle.predict.specs.Grid.{Grid, Held, cells, statsAt}
-use Rattle.estimate.specs.Inputs.{Inputs, Previous}
+use Rattle.predict.specs.Previous.{Previous, previous}
+use Rattle.estimate.specs.Inputs.{Inputs}
 use Rattle.frame.specs.Step.{windowsOk}
 use Rattle.frame.specs.Run.{Planes, planeAt, inputsAt, levelRun, frameRun}
 use Rattle.order.specs.List.{listRefusal, raster}
-use Rattle.inter.specs.Grids.{previous}
 use Rattle.inter.specs.Steps.{stepRefusal, stepGrid}
 use Rattle.inter.specs.Runs.{runRefusal, runGrid}
 

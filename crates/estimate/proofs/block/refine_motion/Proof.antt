@@ -22,11 +22,12 @@ use Rattle.motion.proofs.TestLaws.{both}
 use Rattle.sad.specs.Plane.{Lies}
 use Rattle.sad.specs.Cost.{rdAt}
 use Rattle.sad.proofs.Sums.{Under}
+use Rattle.points.specs.declared.window.Window.{Window}
+use Rattle.points.specs.Window.{Spanned, refineWindow, windowOk}
+use Rattle.points.proofs.SpanLaws.{refine-spanned}
 use Rattle.search.specs.declared.result.MotionSearchResult.{MotionSearchResult}
-use Rattle.search.specs.declared.full.Window.{Window}
-use Rattle.search.specs.Full.{Spanned, fullSearch, refineWindow, windowOk, refine}
+use Rattle.search.specs.Full.{fullSearch, refine}
 use Rattle.search.proofs.FoundLaws.{Settled, refine-settled}
-use Rattle.search.proofs.SpanLaws.{refine-spanned}
 use Rattle.estimate.specs.Block.{blockIn, costIn, statsOf, firstStored, windowAt, refineMotion}
 use Rattle.estimate.proofs.BlockFacts.{refined-sized, level-most, place-most, cell-held, block-lies, block-saves}
 use Rattle.estimate.proofs.block.refine_motion.Statement.{statement}

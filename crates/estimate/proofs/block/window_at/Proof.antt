@@ -6,7 +6,7 @@ use native.Mathlib.Omega.{arith}
 use Rattle.motion.specs.declared.level.Level.{Level}
 use Rattle.motion.specs.Level.{levelOf}
 use Rattle.motion.specs.Block.{blockOf}
-use Rattle.search.specs.Full.{refineWindow}
+use Rattle.points.specs.Window.{refineWindow}
 use Rattle.estimate.specs.Block.{windowAt}
 use Rattle.estimate.proofs.BlockFacts.{level-most, place-most, cell-held}
 use Rattle.estimate.proofs.block.window_at.Statement.{statement}

@@ -9,7 +9,8 @@ use lib.ListN.{length, take, getD}
 use lib.Seq.{take-all}
 use denote.Ref.{now}
 use Rattle.predict.specs.Grid.{Grid, gridOf}
-use Rattle.estimate.specs.Inputs.{Inputs, Previous, inputsOf, previousOf}
+use Rattle.predict.specs.Previous.{Previous, previousOf}
+use Rattle.estimate.specs.Inputs.{Inputs, inputsOf}
 use Rattle.frame.specs.Step.{step}
 use Rattle.frame.specs.Run.{levelRun}
 use Rattle.frame.proofs.StepLaws.{AsLong, held-long}

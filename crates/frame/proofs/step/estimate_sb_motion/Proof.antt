@@ -11,7 +11,8 @@ use Rattle.motion.specs.Frame.{Side, Starts}
 use Rattle.motion.specs.Level.{levelOf}
 use Rattle.predict.specs.declared.grid.MEStats.{MEStats}
 use Rattle.predict.specs.Grid.{Grid, Held, gridOf}
-use Rattle.estimate.specs.Inputs.{inputsOf, previousOf}
+use Rattle.predict.specs.Previous.{previousOf}
+use Rattle.estimate.specs.Inputs.{inputsOf}
 use Rattle.estimate.specs.Block.{estimateMotion}
 use Rattle.frame.specs.Step.{blockCount, blockX, blockY, worked, estimates}
 use Rattle.frame.proofs.GeometryLaws.{Tabled, own-tabled, tabled-bounds, place-asked, placed-at}

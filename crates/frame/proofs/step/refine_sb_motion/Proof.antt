@@ -9,7 +9,7 @@ use Rattle.motion.specs.declared.level.Level.{Level}
 use Rattle.motion.specs.Limits.{largestSide, superblockSide}
 use Rattle.motion.specs.Frame.{Side, Starts}
 use Rattle.motion.specs.Level.{levelOf}
-use Rattle.search.specs.Full.{windowOk}
+use Rattle.points.specs.Window.{windowOk}
 use Rattle.predict.specs.declared.grid.MEStats.{MEStats}
 use Rattle.predict.specs.Grid.{Grid, Held, gridOf}
 use Rattle.estimate.specs.Inputs.{inputsOf}

@@ -6,7 +6,8 @@ use mathlib.Core.Bool.{true}
 use denote.Ref.{now}
 use Rattle.motion.proofs.TestLaws.{failed, passed}
 use Rattle.predict.specs.Grid.{Grid, Held, gridOf}
-use Rattle.estimate.specs.Inputs.{Inputs, Previous, inputsOf, previousOf}
+use Rattle.predict.specs.Previous.{Previous, previousOf}
+use Rattle.estimate.specs.Inputs.{Inputs, inputsOf}
 use Rattle.frame.specs.Step.{windowsOk, estimates}
 use Rattle.frame.proofs.StepLaws.{held-long, refinements-long, step-refused, step-taken}
 use Rattle.frame.proofs.step.superblock_step.Statement.{statement}

@@ -15,7 +15,7 @@ use Rattle.motion.specs.Level.{levelOf}
 use Rattle.motion.specs.Every.{allBelow}
 use Rattle.motion.proofs.EveryLaws.{below-none, below-more, below-fails}
 use Rattle.motion.proofs.TestLaws.{failed, passed}
-use Rattle.search.specs.Full.{windowOk}
+use Rattle.points.specs.Window.{windowOk}
 use Rattle.estimate.specs.Block.{windowAt}
 use Rattle.frame.specs.Step.{blockX, blockY, refinedCount, windowsOk}
 use Rattle.frame.proofs.GeometryLaws.{refined-tabled, place-asked, placed-at}

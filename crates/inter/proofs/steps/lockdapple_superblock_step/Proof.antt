@@ -7,10 +7,10 @@ use Prim.Native.Nat.{ℕ}
 use denote.Ref.{now}
 use Rattle.motion.proofs.TestLaws.{passed, failed}
 use Rattle.predict.specs.Grid.{Grid, gridOf}
+use Rattle.predict.specs.Previous.{previous}
 use Rattle.estimate.specs.Inputs.{inputsOf}
 use Rattle.frame.specs.Step.{step}
 use Rattle.frame.specs.Run.{planesOf, planeAt}
-use Rattle.inter.specs.Grids.{previous}
 use Rattle.inter.specs.Steps.{stepTests}
 use Rattle.inter.proofs.ReadyLaws.{step-ready}
 use Rattle.inter.proofs.OutcomeLaws.{step-refused, step-empty, step-done}

@@ -11,9 +11,10 @@ use mir.Val.{SFits, toZ, ofZ}
 use mir.ValLaws.{toZ-ofZ}
 use Rattle.motion.proofs.Words.{back}
 use Rattle.sad.specs.Cost.{rdAt}
+use Rattle.points.specs.Window.{Spanned}
 use Rattle.search.specs.declared.result.MotionSearchResult.{MotionSearchResult}
-use Rattle.search.specs.Full.{Spanned, rowOf, windowTo, fullSearch}
-use Rattle.search.proofs.SpanLaws.{window-none, window-more}
+use Rattle.search.specs.Full.{rowOf, windowTo, fullSearch}
+use Rattle.search.proofs.FullLaws.{window-none, window-more}
 use Rattle.search.proofs.full.full_search.Statement.{statement}
 use Rattle.search.proofs.full.full_search.Tie as tie
 

@@ -12,9 +12,10 @@ use mir.ValLaws.{toZ-ofZ}
 use Rattle.motion.proofs.Words.{back}
 use Rattle.motion.proofs.VectorLaws.{vector}
 use Rattle.sad.specs.Cost.{rdAt}
+use Rattle.points.specs.Window.{Spanned, spanAt}
 use Rattle.search.specs.declared.result.MotionSearchResult.{MotionSearchResult}
 use Rattle.search.specs.Result.{tryOne, tryEach}
-use Rattle.search.specs.Full.{Spanned, spanAt, rowOf}
+use Rattle.search.specs.Full.{rowOf}
 use Rattle.search.proofs.ResultLaws.{each-none, each-more}
 use Rattle.search.proofs.full.search_row.Statement.{statement}
 use Rattle.search.proofs.full.search_row.Tie as tie

@@ -4,9 +4,9 @@ use borrow.Author.Needs.{needs}
 use mathlib.Core.Path.{ap, _∙_}
 use denote.Ref.{now}
 use Rattle.sad.specs.Cost.{rdAt}
+use Rattle.points.specs.declared.patterns.Pattern.the-variants.{Square}
+use Rattle.points.specs.Patterns.{Plain}
 use Rattle.search.specs.declared.result.MotionSearchResult.{MotionSearchResult}
-use Rattle.search.specs.declared.patterns.Pattern.the-variants.{Square}
-use Rattle.search.specs.Patterns.{Plain}
 use Rattle.search.specs.Result.{cheaper, tryPattern}
 use Rattle.search.specs.Hexagon.{squareRound}
 use Rattle.search.proofs.hexagon.square_refine.Statement.{statement}

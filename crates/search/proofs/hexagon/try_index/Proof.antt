@@ -6,7 +6,7 @@ use native.Mathlib.Omega.{arith}
 use denote.Ref.{now}
 use Rattle.sad.specs.declared.rd.MVCandidateRD.{MVCandidateRD}
 use Rattle.sad.specs.Cost.{rdAt}
-use Rattle.search.specs.Patterns.{hexagonPoint}
+use Rattle.points.specs.Patterns.{hexagonPoint}
 use Rattle.search.proofs.HexagonLaws.{index-taken, index-left}
 use Rattle.search.proofs.hexagon.try_index.Statement.{statement}
 use Rattle.search.proofs.hexagon.try_index.Tie as tie

@@ -7,8 +7,8 @@ use native.Mathlib.Omega.{arith}
 use denote.Ref.{now}
 use Rattle.motion.specs.declared.vector.MotionVector.{MotionVector}
 use Rattle.sad.specs.Cost.{rdAt}
+use Rattle.points.specs.Patterns.{points, pointOf}
 use Rattle.search.specs.declared.result.MotionSearchResult.{MotionSearchResult}
-use Rattle.search.specs.Patterns.{points, pointOf}
 use Rattle.search.specs.Result.{tryOne, tryEach, tryPattern}
 use Rattle.search.proofs.ResultLaws.{each-none, each-more}
 use Rattle.search.proofs.result.try_pattern.Statement.{statement}

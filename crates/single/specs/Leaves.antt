@@ -1,0 +1,33 @@
+-- The entry points that open the leaves: a range and the cost of one candidate.
+use Prim.Native.Nat.{ℕ}
+use mathlib.Core.Bool.{cond}
+use mathlib.Core.List.{List}
+use lib.Dec.{eqb}
+use lib.IntN.{pos}
+use lib.ListN.{length}
+use Rattle.motion.specs.declared.vector.MotionVector.{MotionVector}
+use Rattle.motion.specs.declared.range.MvRange.{MvRange}
+use Rattle.sad.specs.Cost.{rdAt}
+use Rattle.refusal.specs.Tests.{blockRefusal, callRefusal}
+use Rattle.single.specs.declared.found.Found.{Found}
+use Rattle.single.specs.declared.leaves.Range.{Range}
+use Rattle.single.specs.Found.{foundOf, answer}
+use Rattle.single.specs.Call.{blockAt}
+
+-- a range with its number; 0 in each field where refused
+unfoldable pub rangeWith : ℕ → MvRange → Range
+rangeWith number r =
+    cond (eqb number 0)
+    (record { code = 0; «mvx_min» = r .«mvx_min»; «mvx_max» = r .«mvx_max»; «mvy_min» = r .«mvy_min»; «mvy_max» = r .«mvy_max» })
+    (record { code = number; «mvx_min» = pos 0; «mvx_max» = pos 0; «mvy_min» = pos 0; «mvy_max» = pos 0 })
+
+-- the range of a block, at its level's shift
+unfoldable pub rangeAnswer : ℕ → ℕ → ℕ → ℕ → ℕ → ℕ → Range
+rangeAnswer width height level refined bx by =
+    rangeWith (blockRefusal width height level refined bx by) (blockAt width height level refined bx by .range)
+
+-- the cost of one vector for a block
+unfoldable pub candidateAnswer : ℕ → ℕ → ℕ → ℕ → ℕ → ℕ → List ℕ → List ℕ → MotionVector → ℕ → Found
+candidateAnswer width height level refined bx by cur ref v weight =
+    answer (callRefusal width height level refined bx by (length cur) (length ref))
+    (foundOf v (rdAt (blockAt width height level refined bx by) cur ref weight v))
