@@ -1,16 +1,15 @@
 /* The entry points of Lockdapple, for C and C++ on x86-64.
  *
- * Link the static library that `rt staticlib inter` writes; for the two
- * functions of grid files, the one that `rt staticlib gridfile` writes; for the
- * three of a link's reader, the one that `rt staticlib reader` writes; for the
- * comparison at the end, the one that `rt staticlib compare` writes. A program
- * can link any of them. No function asks anything of its caller: whatever
- * numbers and buffers come, it ends, reads only what it was lent, and answers
- * or refuses; a step, a run and the reading of a file write to the grid that
- * they are lent, the writing of a file to the bytes that it is lent, and
- * nowhere else. A slice is a pointer and a count of elements; with a count of 0
- * the pointer may be anything but null. A buffer that is written must not
- * overlap another.
+ * Link the static library that `tools/hostlib inter OUT.a` writes; for the two
+ * functions of grid files, that of `gridfile`; for the three of a link's
+ * reader, that of `reader`, which has the two as well; for the comparison at
+ * the end, that of `compare`, likewise. A program can link any of them. No
+ * function asks anything of its caller: whatever numbers and buffers come, it
+ * ends, reads only what it was lent, and answers or refuses; a step, a run and
+ * the reading of a file write to the grid that they are lent, the writing of a
+ * file to the bytes that it is lent, and nowhere else. A slice is a pointer
+ * and a count of elements; with a count of 0 the pointer may be anything but
+ * null. A buffer that is written must not overlap another.
  *
  * Frame: width and height are multiples of 8, from 8 to 1,024.
  * Level: 4, 3 or 2, with blocks of 64, 32 or 16 pixels, shift s = 2, 1 or 0,
