@@ -2,7 +2,7 @@
 
 use oracle::Grid;
 
-use crate::Random;
+use crate::random::Random;
 
 pub const FILLS: [&str; 6] = [
     "anything",

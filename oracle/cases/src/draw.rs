@@ -2,7 +2,7 @@
 
 use oracle::BlockAt;
 
-use crate::Random;
+use crate::random::Random;
 
 /// The weights that every run tries.
 pub const WEIGHTS: [u32; 4] = [0, 1, 16, u32::MAX];

@@ -2,7 +2,7 @@
 
 use oracle::{Oracle, PAD};
 
-use crate::sample;
+use crate::sample::sample;
 
 /// Current and reference planes at full, half and quarter size.
 pub struct Frame {

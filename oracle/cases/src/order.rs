@@ -1,6 +1,6 @@
 //! Lists of superblocks: orders in which a run may go, and lists that it refuses.
 
-use crate::Random;
+use crate::random::Random;
 
 /// Those up to `ACCEPTED` name each superblock once, with no pair that shares an
 /// edge against raster order. Others may as well, as in a frame of one superblock.

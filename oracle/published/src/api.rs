@@ -22,9 +22,6 @@ pub use search::{Found, Search};
 
 use crate::{analyze::inter, data::motion::MotionVector};
 
-/// Bytes only.
-const BIT_DEPTH: usize = 8;
-
 /// `get_mv_rate` against the zero vector.
 pub fn rate(row: i16, col: i16) -> u32 {
     inter::get_mv_rate(MotionVector { row, col }, MotionVector::default())

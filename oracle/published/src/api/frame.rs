@@ -5,8 +5,8 @@ use std::sync::Arc;
 use v_frame::{frame::Frame, plane::Plane};
 
 use super::{
-    BIT_DEPTH, BlockAt, Grid,
-    grid::{fill, read},
+    block::BlockAt,
+    grid::{Grid, fill, read},
     planes::embed,
 };
 use crate::{
@@ -21,6 +21,9 @@ use crate::{
     },
     hooks,
 };
+
+/// Bytes only.
+pub const BIT_DEPTH: usize = 8;
 
 /// The one reference that the published text searches.
 pub const REFERENCE: RefType = RefType::LAST_FRAME;

@@ -1,6 +1,10 @@
 //! The predictor lists and the stop threshold.
 
-use super::{BlockAt, Grid, MvRange, Oracle, frame::REFERENCE};
+use super::{
+    block::{BlockAt, MvRange},
+    frame::{Oracle, REFERENCE},
+    grid::Grid,
+};
 use crate::{
     analyze::inter,
     data::{

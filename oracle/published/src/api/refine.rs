@@ -1,6 +1,11 @@
 //! One refinement.
 
-use super::{BIT_DEPTH, BlockAt, Found, Grid, Oracle, frame::REFERENCE};
+use super::{
+    block::BlockAt,
+    frame::{BIT_DEPTH, Oracle, REFERENCE},
+    grid::Grid,
+    search::Found,
+};
 use crate::{
     analyze::inter,
     data::tile::{TileBlockOffset, TileStateMut},

@@ -4,7 +4,10 @@ use std::hint::black_box;
 
 use v_frame::plane::Plane;
 
-use super::{BIT_DEPTH, BlockAt, MvRange, Oracle};
+use super::{
+    block::{BlockAt, MvRange},
+    frame::{BIT_DEPTH, Oracle},
+};
 use crate::{
     analyze::inter,
     data::{

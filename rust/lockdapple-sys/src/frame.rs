@@ -1,0 +1,158 @@
+//! The calls that write a frame's grid, of the crate `inter`. Each gives a refusal's
+//! number, 0 for none.
+
+use crate::given::{GridMut, Planes, Previous, Step};
+
+unsafe extern "C" {
+    fn lockdapple_superblock_step(
+        width: usize,
+        height: usize,
+        level: usize,
+        superblock: usize,
+        cur: *const u8,
+        cur_len: usize,
+        cur_half: *const u8,
+        cur_half_len: usize,
+        cur_quarter: *const u8,
+        cur_quarter_len: usize,
+        reference: *const u8,
+        reference_len: usize,
+        ref_half: *const u8,
+        ref_half_len: usize,
+        ref_quarter: *const u8,
+        ref_quarter_len: usize,
+        present: usize,
+        prev_rows: *const i16,
+        prev_rows_len: usize,
+        prev_cols: *const i16,
+        prev_cols_len: usize,
+        prev_sads: *const u32,
+        prev_sads_len: usize,
+        rows: *mut i16,
+        rows_len: usize,
+        cols: *mut i16,
+        cols_len: usize,
+        sads: *mut u32,
+        sads_len: usize,
+    ) -> u32;
+
+    fn lockdapple_frame_run(
+        width: usize,
+        height: usize,
+        cur: *const u8,
+        cur_len: usize,
+        cur_half: *const u8,
+        cur_half_len: usize,
+        cur_quarter: *const u8,
+        cur_quarter_len: usize,
+        reference: *const u8,
+        reference_len: usize,
+        ref_half: *const u8,
+        ref_half_len: usize,
+        ref_quarter: *const u8,
+        ref_quarter_len: usize,
+        present: usize,
+        prev_rows: *const i16,
+        prev_rows_len: usize,
+        prev_cols: *const i16,
+        prev_cols_len: usize,
+        prev_sads: *const u32,
+        prev_sads_len: usize,
+        list: *const u16,
+        list_len: usize,
+        rows: *mut i16,
+        rows_len: usize,
+        cols: *mut i16,
+        cols_len: usize,
+        sads: *mut u32,
+        sads_len: usize,
+    ) -> u32;
+}
+
+pub fn superblock_step(
+    step: Step,
+    cur: Planes<'_>,
+    reference: Planes<'_>,
+    previous: Previous<'_>,
+    grid: GridMut<'_>,
+) -> u32 {
+    // SAFETY: planes and buffers are lent with their own lengths.
+    unsafe {
+        lockdapple_superblock_step(
+            step.width,
+            step.height,
+            step.level,
+            step.superblock,
+            cur.full.as_ptr(),
+            cur.full.len(),
+            cur.half.as_ptr(),
+            cur.half.len(),
+            cur.quarter.as_ptr(),
+            cur.quarter.len(),
+            reference.full.as_ptr(),
+            reference.full.len(),
+            reference.half.as_ptr(),
+            reference.half.len(),
+            reference.quarter.as_ptr(),
+            reference.quarter.len(),
+            previous.present,
+            previous.grid.rows.as_ptr(),
+            previous.grid.rows.len(),
+            previous.grid.cols.as_ptr(),
+            previous.grid.cols.len(),
+            previous.grid.sads.as_ptr(),
+            previous.grid.sads.len(),
+            grid.rows.as_mut_ptr(),
+            grid.rows.len(),
+            grid.cols.as_mut_ptr(),
+            grid.cols.len(),
+            grid.sads.as_mut_ptr(),
+            grid.sads.len(),
+        )
+    }
+}
+
+pub fn frame_run(
+    width: usize,
+    height: usize,
+    cur: Planes<'_>,
+    reference: Planes<'_>,
+    previous: Previous<'_>,
+    list: &[u16],
+    grid: GridMut<'_>,
+) -> u32 {
+    // SAFETY: planes, buffers and the list are lent with their own lengths.
+    unsafe {
+        lockdapple_frame_run(
+            width,
+            height,
+            cur.full.as_ptr(),
+            cur.full.len(),
+            cur.half.as_ptr(),
+            cur.half.len(),
+            cur.quarter.as_ptr(),
+            cur.quarter.len(),
+            reference.full.as_ptr(),
+            reference.full.len(),
+            reference.half.as_ptr(),
+            reference.half.len(),
+            reference.quarter.as_ptr(),
+            reference.quarter.len(),
+            previous.present,
+            previous.grid.rows.as_ptr(),
+            previous.grid.rows.len(),
+            previous.grid.cols.as_ptr(),
+            previous.grid.cols.len(),
+            previous.grid.sads.as_ptr(),
+            previous.grid.sads.len(),
+            list.as_ptr(),
+            list.len(),
+            grid.rows.as_mut_ptr(),
+            grid.rows.len(),
+            grid.cols.as_mut_ptr(),
+            grid.cols.len(),
+            grid.sads.as_mut_ptr(),
+            grid.sads.len(),
+        )
+    }
+}
