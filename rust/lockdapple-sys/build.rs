@@ -27,7 +27,7 @@ fn main() {
         println!("cargo::rerun-if-changed={}", file.display());
         if !file.is_file() {
             println!(
-                "cargo::error=no {}, which `rt staticlib {name}` writes",
+                "cargo::error=no {}, which `tools/hostlib {name}` writes",
                 file.display()
             );
         }
