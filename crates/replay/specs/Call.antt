@@ -1,6 +1,6 @@
 -- Which calls the program's buffers hold.
 use Prim.Native.Nat.{_≤_, _<_, _^_}
-use Rattle.replay.specs.declared.calls.Call.{Call}
+use Rattle.replay.specs.declared.columns.Call.{Call}
 
 -- no side is longer than 136, so no cell of a block is past the 34th; the seed is one that planes have, and the weight a word
 abbrev pub Drawable : Call → Type 0

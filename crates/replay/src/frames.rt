@@ -1,145 +1,67 @@
-use crate::grids::MOST_CELLS;
+use crate::columns::Call;
+use crate::grids::LARGEST_GRID;
+use crate::grids::cell;
+use crate::grids::cells;
 use crate::grids::previous;
 use crate::grids::sum;
-use crate::lines::Line;
-use crate::planes::LARGEST_PLANE;
-use crate::planes::fill;
-use crate::planes::padded;
-use crate::sample::CONTENTS;
-use crate::sample::SEEDS;
-use crate::tally::Outcome;
-use crate::tally::equal_if;
+use crate::planes::HALF;
+use crate::planes::QUARTER;
+use crate::planes::from_plane;
 use inter::runs::lockdapple_frame_run;
+use single::found::Found;
 ghost use Prim.Native.Nat.{_≤_, _<_};
 ghost use lib.ListN.{length};
-
-// No frame that is run has a longer side.
-const LONGEST: usize = 72;
-
-// Where a frame's half-size plane starts in its buffer: past the full-size one of the largest frame.
-const HALF: usize = 28224;
-
-// Where its quarter-size plane starts, past the half-size one.
-const QUARTER: usize = 41680;
+ghost use Rattle.replay.specs.Call.{Drawable};
 
 // What the cells hold before a run, and after none.
 const BEFORE: i16 = 32767;
 
-// A run in raster order over the frames of a content and a seed, with a previous grid (1) or without (0).
-struct Run {
-    width: usize,
-    height: usize,
-    content: u64,
-    seed: u64,
-    present: usize,
-}
-
-// What the published Rust left in one cell, and the sum over all.
-struct Left {
-    cell: usize,
-    row: i16,
-    col: i16,
-    sad: u64,
-    sum: u64,
-}
-
-fn is_side(side: usize) -> bool {
-    if side < 8 {
-        return false;
-    }
-    side % 8 == 0
-}
-
-fn is_run(run: Run) -> bool {
-    if !is_side(run.width) {
-        return false;
-    }
-    if !is_side(run.height) {
-        return false;
-    }
-    if run.content >= CONTENTS {
-        return false;
-    }
-    run.present <= 1
-}
-
-fn cells(width: usize, height: usize) -> usize
-    requires { ⌜ (width ≤ 72) × (height ≤ 72) ⌝ }
-    ensures { λ r. ⌜ r ≤ 324 ⌝ }
-{
-    width / 4 * (height / 4)
-}
-
-// How many superblocks a frame has: at most two on a side.
+// How many superblocks a frame has: at most three on a side.
 fn superblocks(width: usize, height: usize) -> usize
-    ensures { λ r. ⌜ r ≤ 4 ⌝ }
+    requires { ⌜ (width ≤ 136) × (height ≤ 136) ⌝ }
+    ensures { λ r. ⌜ r ≤ 9 ⌝ }
 {
-    if width <= 64 {
-        if height <= 64 { 1 } else { 2 }
-    } else {
-        if height <= 64 { 2 } else { 4 }
-    }
+    (width + 63) / 64 * ((height + 63) / 64)
 }
 
-// Draws the current frame (0) or the reference (1).
-fn draw(run: Run, which: u64, frame: &mut [u8; LARGEST_PLANE])
-    requires { ⌜ (run .width ≤ 72) × (run .seed < 65536) × (which ≤ 1) ⌝ }
-{
-    let full = padded(run.width, 2);
-    let half = padded(run.width, 3);
-    let quarter = padded(run.width, 4);
-    let content = run.content;
-    let seed = run.seed;
-    fill(frame, 0, HALF, full, content, seed, which);
-    fill(frame, HALF, QUARTER, half, content, seed, which);
-    fill(frame, QUARTER, LARGEST_PLANE, quarter, content, seed, which);
-}
-
-// This part and the next are taken in functions of their own: among the many arguments of a run they are slow to prove.
+// The list's first superblocks, as many as the frame has: of a function of its own for the reason of `from_plane`.
 fn listed(list: &[u16], width: usize, height: usize) -> &[u16]
-    requires { ⌜ 4 ≤ length (now list) ⌝ }
+    requires { ⌜ (width ≤ 136) × (height ≤ 136) × (9 ≤ length (now list)) ⌝ }
 {
     let count = superblocks(width, height);
     &list[0..count]
 }
 
-fn plane_from(frame: &[u8], start: usize) -> &[u8]
-    requires { ⌜ start ≤ length (now frame) ⌝ }
-{
-    &frame[start..]
-}
-
-// Runs the proved code over drawn frames, and gives its number.
+// A run in raster order with these grids, and its number.
 fn ran_after(
-    width: usize,
-    height: usize,
+    call: Call,
     cur: &[u8],
     reference: &[u8],
-    present: usize,
-    prev_rows: &[i16; MOST_CELLS],
-    prev_cols: &[i16; MOST_CELLS],
-    prev_sads: &[u32; MOST_CELLS],
+    prev_rows: &[i16; LARGEST_GRID],
+    prev_cols: &[i16; LARGEST_GRID],
+    prev_sads: &[u32; LARGEST_GRID],
     list: &[u16],
-    rows: &mut [i16; MOST_CELLS],
-    cols: &mut [i16; MOST_CELLS],
-    sads: &mut [u32; MOST_CELLS],
+    rows: &mut [i16; LARGEST_GRID],
+    cols: &mut [i16; LARGEST_GRID],
+    sads: &mut [u32; LARGEST_GRID],
 ) -> u32
-    requires { ⌜ (41680 ≤ length (now cur)) × (41680 ≤ length (now reference)) × (4 ≤ length (now list)) ⌝ }
+    requires { ⌜ Drawable call ⌝ }
+    requires { ⌜ (75728 ≤ length (now cur)) × (75728 ≤ length (now reference)) × (9 ≤ length (now list)) ⌝ }
 {
     lockdapple_frame_run(
-        width,
-        height,
+        call.width,
+        call.height,
         cur,
-        plane_from(cur, HALF),
-        plane_from(cur, QUARTER),
+        from_plane(cur, HALF),
+        from_plane(cur, QUARTER),
         reference,
-        plane_from(reference, HALF),
-        plane_from(reference, QUARTER),
-        present,
+        from_plane(reference, HALF),
+        from_plane(reference, QUARTER),
+        call.refined,
         prev_rows,
         prev_cols,
         prev_sads,
-        listed(list, width, height),
+        listed(list, call.width, call.height),
         rows,
         cols,
         sads,
@@ -147,24 +69,25 @@ fn ran_after(
 }
 
 fn ran(
-    run: Run,
-    cur: &[u8; LARGEST_PLANE],
-    reference: &[u8; LARGEST_PLANE],
-    rows: &mut [i16; MOST_CELLS],
-    cols: &mut [i16; MOST_CELLS],
-    sads: &mut [u32; MOST_CELLS],
-) -> u32 {
-    let mut prev_rows = [0i16; MOST_CELLS];
-    let mut prev_cols = [0i16; MOST_CELLS];
-    let mut prev_sads = [0u32; MOST_CELLS];
+    call: Call,
+    cur: &[u8],
+    reference: &[u8],
+    rows: &mut [i16; LARGEST_GRID],
+    cols: &mut [i16; LARGEST_GRID],
+    sads: &mut [u32; LARGEST_GRID],
+) -> u32
+    requires { ⌜ Drawable call ⌝ }
+    requires { ⌜ (75728 ≤ length (now cur)) × (75728 ≤ length (now reference)) ⌝ }
+{
+    let mut prev_rows = [0i16; LARGEST_GRID];
+    let mut prev_cols = [0i16; LARGEST_GRID];
+    let mut prev_sads = [0u32; LARGEST_GRID];
     previous(&mut prev_rows, &mut prev_cols, &mut prev_sads);
-    let list = [0u16, 1, 2, 3];
+    let list = [0u16, 1, 2, 3, 4, 5, 6, 7, 8];
     ran_after(
-        run.width,
-        run.height,
+        call,
         cur,
         reference,
-        run.present,
         &prev_rows,
         &prev_cols,
         &prev_sads,
@@ -175,100 +98,36 @@ fn ran(
     )
 }
 
-fn same(left: Left, row: i16, col: i16, sad: u32, sum: u64) -> Outcome {
-    if row != left.row {
-        return Outcome::Differs;
-    }
-    if col != left.col {
-        return Outcome::Differs;
-    }
-    if sad as u64 != left.sad {
-        return Outcome::Differs;
-    }
-    equal_if(sum == left.sum)
-}
-
-fn grid_compared(
-    left: Left,
+// A cell, its cost the sum over the first `count`.
+fn found_in(
+    code: u32,
+    at: usize,
     count: usize,
-    rows: &[i16; MOST_CELLS],
-    cols: &[i16; MOST_CELLS],
-    sads: &[u32; MOST_CELLS],
-) -> Outcome
-    requires { ⌜ (left .cell < count) × (count ≤ 324) ⌝ }
+    rows: &[i16; LARGEST_GRID],
+    cols: &[i16; LARGEST_GRID],
+    sads: &[u32; LARGEST_GRID],
+) -> Found
+    requires { ⌜ (at < 1156) × (count ≤ 1156) ⌝ }
 {
-    let cell = left.cell;
-    let all = sum(count, rows, cols, sads);
-    same(left, rows[cell], cols[cell], sads[cell], all)
+    Found {
+        code,
+        row: rows[at],
+        col: cols[at],
+        sad: sads[at],
+        cost: sum(count, rows, cols, sads) as u64,
+    }
 }
 
-fn run_compared(
-    run: Run,
-    left: Left,
-    count: usize,
-    cur: &[u8; LARGEST_PLANE],
-    reference: &[u8; LARGEST_PLANE],
-) -> Outcome
-    requires { ⌜ (left .cell < count) × (count ≤ 324) ⌝ }
+// What a run leaves in the call's cell, and the sum over all cells as its cost.
+pub(crate) fn on_frame(call: Call, cur: &[u8], reference: &[u8]) -> Found
+    requires { ⌜ Drawable call ⌝ }
+    requires { ⌜ (75728 ≤ length (now cur)) × (75728 ≤ length (now reference)) ⌝ }
 {
-    let mut rows = [BEFORE; MOST_CELLS];
-    let mut cols = [BEFORE; MOST_CELLS];
-    let mut sads = [0u32; MOST_CELLS];
-    let code = ran(run, cur, reference, &mut rows, &mut cols, &mut sads);
-    if code != 0 {
-        return Outcome::Differs;
-    }
-    grid_compared(left, count, &rows, &cols, &sads)
-}
-
-// A side that no frame has or that is too long for the buffers, a content or a seed that no plane has, a previous grid
-// neither present nor absent, and a cell that the grid has not, are no case's.
-fn compared(
-    run: Run,
-    left: Left,
-    cur: &mut [u8; LARGEST_PLANE],
-    reference: &mut [u8; LARGEST_PLANE],
-) -> Outcome {
-    if run.width > LONGEST {
-        return Outcome::Malformed;
-    }
-    if run.height > LONGEST {
-        return Outcome::Malformed;
-    }
-    if run.seed >= SEEDS {
-        return Outcome::Malformed;
-    }
-    if !is_run(run) {
-        return Outcome::Malformed;
-    }
-    let count = cells(run.width, run.height);
-    if left.cell >= count {
-        return Outcome::Malformed;
-    }
-    draw(run, 0, cur);
-    draw(run, 1, reference);
-    run_compared(run, left, count, cur, reference)
-}
-
-pub(crate) fn frame(
-    line: Line,
-    cur: &mut [u8; LARGEST_PLANE],
-    reference: &mut [u8; LARGEST_PLANE],
-) -> Outcome {
-    let s = line.size;
-    let run = Run {
-        width: s[0] as usize,
-        height: s[1] as usize,
-        content: s[2],
-        seed: s[3],
-        present: s[4] as usize,
-    };
-    let left = Left {
-        cell: s[5] as usize,
-        row: line.component(6),
-        col: line.component(7),
-        sad: s[8],
-        sum: s[9],
-    };
-    compared(run, left, cur, reference)
+    let mut rows = [BEFORE; LARGEST_GRID];
+    let mut cols = [BEFORE; LARGEST_GRID];
+    let mut sads = [0u32; LARGEST_GRID];
+    let at = cell(call.width, call.bx, call.by);
+    let count = cells(call.width, call.height);
+    let code = ran(call, cur, reference, &mut rows, &mut cols, &mut sads);
+    found_in(code, at, count, &rows, &cols, &sads)
 }

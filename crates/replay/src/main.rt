@@ -1,12 +1,14 @@
-// Replays fixed answers of the published Rust, and says of each kind of case how many come out equal. The lines are
+// Replays fixed answers of the published Rust, called as `replay FILE..` with files that oracle/answers wrote, and says
+// of each how many come out equal. The lines are
 //
-//     KIND EQUAL of READ        the cases of KIND.txt
-//     differs KIND LINE         the first line of a kind whose answer is another
-//     malformed FILE LINE       the first line of a file that is no case; it counts as read
-//     cannot read FILE          instead of the kind's other lines
-//     equal EQUAL of READ       the cases of all kinds
-mod calls;
+//     FILE EQUAL of READ        the cases of a file
+//     differs FILE LINE         its first line whose answer is another
+//     malformed FILE LINE       its first line that is no case; it counts as read
+//     cannot read FILE          instead of the file's other lines
+//     equal EQUAL of READ       the last line: the cases of all files
+mod blocks;
 mod cases;
+mod columns;
 mod frames;
 mod grids;
 mod lines;
@@ -16,115 +18,87 @@ mod report;
 mod sample;
 mod tally;
 
-use crate::calls::Entry;
-use crate::cases::Kind;
 use crate::lines::replayed;
-use crate::planes::LARGEST_PLANE;
+use crate::planes::SAMPLES;
 use crate::report::cannot_read;
 use crate::report::equal_of;
 use crate::report::report;
 use crate::tally::Tally;
-use crate::tally::sum;
-ghost use Prim.Native.Nat.{_^_};
+ghost use Prim.Native.Nat.{_<_, _^_};
+ghost use Rattle.io.specs.Counts.{Counts};
 ghost use Rattle.replay.specs.Tally.{Within};
 
 // No file of cases is as long as this.
 const TOO_LONG: usize = 16384;
 
+// No system passes more arguments.
+const ARGUMENTS: usize = 0x7fff_ffff;
+
+// A file's bytes and how many they are, none where it cannot be read: a failed read gives no byte, and a full buffer may
+// be a part of the file.
+fn read(name: &[u8], file: &mut [u8]) -> usize
+    ensures { λ r. ⌜ Counts r (now (file .exit)) × (r < 16384) ⌝ }
+{
+    let fd = os::open_read(name);
+    if fd < 0 {
+        return 0;
+    }
+    let n = io::read_full(fd, file);
+    libc::close(fd);
+    if n < TOO_LONG { n } else { 0 }
+}
+
 fn replay(
-    kind: Kind,
     name: &[u8],
-    file: &[u8],
-    cur: &mut [u8; LARGEST_PLANE],
-    reference: &mut [u8; LARGEST_PLANE],
+    file: &mut [u8],
+    cur: &mut [u8; SAMPLES],
+    reference: &mut [u8; SAMPLES],
 ) -> Tally
     ensures { λ r. ⌜ Within r (2 ^ 16) ⌝ }
 {
-    let fd = os::open_read(file);
-    if fd < 0 {
-        cannot_read(file);
-        return Tally::new();
-    }
-    let mut buf = [0u8; TOO_LONG];
-    let n = io::read_full(fd, &mut buf);
-    libc::close(fd);
-    // A failed read gives no byte, and a full buffer may be a part of the file.
+    let n = read(name, file);
     if n == 0 {
-        cannot_read(file);
+        cannot_read(name);
         return Tally::new();
     }
-    if n == TOO_LONG {
-        cannot_read(file);
-        return Tally::new();
-    }
-    let tally = replayed(kind, &buf[..n], cur, reference);
-    report(name, file, tally);
+    let tally = replayed(&file[..n], cur, reference);
+    report(name, tally);
     tally
 }
 
-fn leaves(cur: &mut [u8; LARGEST_PLANE], reference: &mut [u8; LARGEST_PLANE]) -> Tally
-    ensures { λ r. ⌜ Within r (2 ^ 18) ⌝ }
+// Replays the file that an argument names.
+fn replay_named(
+    which: usize,
+    file: &mut [u8],
+    cur: &mut [u8; SAMPLES],
+    reference: &mut [u8; SAMPLES],
+) -> Tally
+    ensures { λ r. ⌜ Within r (2 ^ 16) ⌝ }
 {
-    let rate = replay(Kind::Rate, b"rate", b"rate.txt", cur, reference);
-    let range = replay(Kind::Range, b"range", b"range.txt", cur, reference);
-    let sad = replay(Kind::Sad, b"sad", b"sad.txt", cur, reference);
-    let candidate = replay(
-        Kind::Candidate,
-        b"candidate",
-        b"candidate.txt",
-        cur,
-        reference,
-    );
-    sum(rate, range, sad, candidate)
+    let mut name = io::buffer();
+    let letters = os::arg(which, &mut name);
+    replay(&name[..letters], file, cur, reference)
 }
 
-fn searches(cur: &mut [u8; LARGEST_PLANE], reference: &mut [u8; LARGEST_PLANE]) -> Tally
-    ensures { λ r. ⌜ Within r (2 ^ 18) ⌝ }
-{
-    let diamond = replay(
-        Kind::Search(Entry::Diamond),
-        b"diamond",
-        b"diamond.txt",
-        cur,
-        reference,
-    );
-    let hexagon = replay(
-        Kind::Search(Entry::Hexagon),
-        b"hexagon",
-        b"hexagon.txt",
-        cur,
-        reference,
-    );
-    let multi_hexagon = replay(
-        Kind::Search(Entry::MultiHexagon),
-        b"multi_hexagon",
-        b"multi_hexagon.txt",
-        cur,
-        reference,
-    );
-    let refine = replay(
-        Kind::Search(Entry::Refine),
-        b"refine",
-        b"refine.txt",
-        cur,
-        reference,
-    );
-    sum(diamond, hexagon, multi_hexagon, refine)
+fn replay_all(file: &mut [u8; TOO_LONG], cur: &mut [u8; SAMPLES], reference: &mut [u8; SAMPLES]) {
+    let count = os::arg_count();
+    let mut all = Tally::new();
+    let mut which = 1;
+    while which < count {
+        if which > ARGUMENTS {
+            break;
+        }
+        all = all.plus(replay_named(which, file, cur, reference));
+        which += 1;
+    }
+    equal_of(b"equal", all);
 }
 
-// The planes are lent from here: compiled, the prologue of so large a frame can spoil a register that a test before it
-// set, and nothing comes before this one.
+// The file and the planes are lent from here: compiled, the prologue of so large a frame can spoil a register that a
+// test before it set, and nothing comes before this one.
 fn main() {
-    let mut cur = [0u8; LARGEST_PLANE];
-    let mut reference = [0u8; LARGEST_PLANE];
-    let first = leaves(&mut cur, &mut reference);
-    let second = searches(&mut cur, &mut reference);
-    let third = replay(
-        Kind::Frame,
-        b"frame",
-        b"frame.txt",
-        &mut cur,
-        &mut reference,
-    );
-    equal_of(b"equal", first.plus(second).plus(third));
+    let mut file = [0u8; TOO_LONG];
+    let mut cur = [0u8; SAMPLES];
+    let mut reference = [0u8; SAMPLES];
+    replay_all(&mut file, &mut cur, &mut reference);
 }

@@ -16,19 +16,18 @@ pub(crate) fn equal_of(what: &[u8], tally: Tally) {
 }
 
 // Line 0 stands for none.
-fn at_line(what: &[u8], name: &[u8], line: u64) {
+fn at_line(what: &[u8], file: &[u8], line: u64) {
     if line == 0 {
         return;
     }
     text(what);
-    text(b" ");
-    text(name);
+    text(file);
     labelled(b" ", line);
     text(b"\n");
 }
 
-pub(crate) fn report(name: &[u8], file: &[u8], tally: Tally) {
-    at_line(b"malformed", file, tally.malformed);
-    at_line(b"differs", name, tally.differs);
-    equal_of(name, tally);
+pub(crate) fn report(file: &[u8], tally: Tally) {
+    at_line(b"malformed ", file, tally.malformed);
+    at_line(b"differs ", file, tally.differs);
+    equal_of(file, tally);
 }

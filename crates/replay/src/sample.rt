@@ -2,14 +2,14 @@ ghost use Prim.Native.Nat.{_≤_, _<_};
 
 // What planes hold, as the published Rust was given them: content 0 is flat, 1 a gradient, 2 noise, 3 saturated noise,
 // 4 a shifted copy and 5 plateaus.
-pub(crate) const CONTENTS: u64 = 6;
+pub(crate) const CONTENTS: usize = 6;
 
 // Seeds are below this.
-pub(crate) const SEEDS: u64 = 65_536;
+pub(crate) const SEEDS: usize = 65_536;
 
-pub(crate) const PRIME: u64 = 2_147_483_647;
+pub(crate) const PRIME: usize = 2_147_483_647;
 
-fn squared(v: u64) -> u64
+fn squared(v: usize) -> usize
     requires { ⌜ v < 2147483647 ⌝ }
     ensures { λ r. ⌜ r < 2147483647 ⌝ }
 {
@@ -17,7 +17,7 @@ fn squared(v: u64) -> u64
 }
 
 // Squaring twice, since without it nearby samples are visibly related.
-fn noise(k: u64, x: u64, y: u64) -> u64
+fn noise(k: usize, x: usize, y: usize) -> usize
     requires { ⌜ (k < 131072) × (x < 131072) × (y < 131072) ⌝ }
     ensures { λ r. ⌜ r < 256 ⌝ }
 {
@@ -25,20 +25,20 @@ fn noise(k: u64, x: u64, y: u64) -> u64
     squared(squared(v)) / 4096 % 256
 }
 
-fn gradient(seed: u64, plane: u64, x: u64, y: u64) -> u64
+fn gradient(seed: usize, plane: usize, x: usize, y: usize) -> usize
     requires { ⌜ (seed < 65536) × (plane ≤ 1) × (x < 65536) × (y < 65536) ⌝ }
     ensures { λ r. ⌜ r < 256 ⌝ }
 {
     (x * (1 + seed % 7) + y * (seed / 7 % 5) + 3 * plane) % 256
 }
 
-fn saturated(value: u64) -> u64
+fn saturated(value: usize) -> usize
     ensures { λ r. ⌜ r < 256 ⌝ }
 {
     if value >= 128 { 255 } else { 0 }
 }
 
-fn shifted(seed: u64, plane: u64, x: u64, y: u64) -> u64
+fn shifted(seed: usize, plane: usize, x: usize, y: usize) -> usize
     requires { ⌜ (seed < 65536) × (plane ≤ 1) × (x < 65536) × (y < 65536) ⌝ }
     ensures { λ r. ⌜ r < 256 ⌝ }
 {
@@ -50,7 +50,7 @@ fn shifted(seed: u64, plane: u64, x: u64, y: u64) -> u64
 }
 
 // Every other seed has the same plateaus in both planes.
-fn plateau(seed: u64, plane: u64, x: u64, y: u64) -> u64
+fn plateau(seed: usize, plane: usize, x: usize, y: usize) -> usize
     requires { ⌜ (seed < 65536) × (plane ≤ 1) × (x < 65536) × (y < 65536) ⌝ }
     ensures { λ r. ⌜ r < 256 ⌝ }
 {
@@ -61,7 +61,8 @@ fn plateau(seed: u64, plane: u64, x: u64, y: u64) -> u64
     }
 }
 
-fn value(content: u64, seed: u64, plane: u64, x: u64, y: u64) -> u64
+// The sample in column x and row y of a padded plane, the current one (0) or the reference (1).
+pub(crate) fn value(content: usize, seed: usize, plane: usize, x: usize, y: usize) -> usize
     requires { ⌜ (seed < 65536) × (plane ≤ 1) × (x < 65536) × (y < 65536) ⌝ }
     ensures { λ r. ⌜ r < 256 ⌝ }
 {
@@ -73,11 +74,4 @@ fn value(content: u64, seed: u64, plane: u64, x: u64, y: u64) -> u64
         4 => shifted(seed, plane, x, y),
         _ => plateau(seed, plane, x, y),
     }
-}
-
-// The sample in column x and row y of a padded plane, the current one (0) or the reference (1).
-pub(crate) fn sample(content: u64, seed: u64, plane: u64, x: u64, y: u64) -> u8
-    requires { ⌜ (seed < 65536) × (plane ≤ 1) × (x < 65536) × (y < 65536) ⌝ }
-{
-    value(content, seed, plane, x, y) as u8
 }

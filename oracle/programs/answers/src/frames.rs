@@ -1,12 +1,11 @@
 //! The cases of whole frames.
 
 use cases::{Frame, Random, SEEDS, cells};
-use oracle::Grid;
+use oracle::{BlockAt, Found, Grid};
 
-use crate::lists::{EACH, SEED, line};
+use crate::lists::{EACH, Kind, SEED, line};
 
-/// Sides of frames: one superblock, two by one and two by two, all cropped; the
-/// planes of a larger frame are too many for the reader's buffers.
+/// Sides of frames: one superblock, two by one and two by two, all cropped.
 const SIDES: [(usize, usize); 3] = [(24, 16), (72, 40), (72, 72)];
 
 /// The content, by its number, of which the smallest frame gives every cell.
@@ -47,18 +46,23 @@ fn frame(width: usize, height: usize, content: usize, seed: u64, present: bool) 
     let all = (width, height) == SIDES[0] && content == EVERY_CELL;
     let first = if all { 0 } else { count - 1 };
     let answer = |cell: usize| {
-        line(&[
-            width as i128,
-            height as i128,
-            content as i128,
-            seed.into(),
-            present.into(),
-            cell as i128,
-            grid.rows[cell].into(),
-            grid.cols[cell].into(),
-            grid.sads[cell].into(),
-            sum(&grid).into(),
-        ])
+        // A frame has no level, no vector and no weight.
+        let at = BlockAt {
+            width,
+            height,
+            level: 0,
+            refined: present,
+            bx: cell % (width / 4),
+            by: cell / (width / 4),
+        };
+        let given = [content as i128, seed.into(), 0, 0, 0];
+        let found = Found {
+            row: grid.rows[cell],
+            col: grid.cols[cell],
+            sad: grid.sads[cell],
+            cost: sum(&grid),
+        };
+        line(Kind::Frame, &at, given, found)
     };
     (first..count).map(answer).collect()
 }

@@ -11,7 +11,7 @@ use oracle::Search;
 
 use crate::{
     frames::frames,
-    lists::{SEED, candidate, range, rate, sad},
+    lists::{SEED, candidate},
     searches::{refine, search},
 };
 
@@ -28,61 +28,45 @@ fn main() -> ExitCode {
         eprintln!("usage: answers OUT_DIR");
         return ExitCode::from(2);
     };
-    let block = "width height level refined bx by";
-    let searched = |what: &str, name: Search| {
-        let columns =
-            "width height level bx by content seed row col weight out_row out_col sad cost";
-        text(what, columns, &search(name))
-    };
+    let columns = "kind width height level refined bx by content seed row col weight out_row out_col sad cost";
     let files = [
-        (
-            "rate.txt",
-            text("The rate of a vector.", "row col rate", &rate()),
-        ),
-        (
-            "range.txt",
-            text(
-                "The range of a block's vectors at its level's shift.",
-                &format!("{block} mvx_min mvx_max mvy_min mvy_max"),
-                &range(),
-            ),
-        ),
-        (
-            "sad.txt",
-            text(
-                "The SAD of a block and the reference block that a vector leads to.",
-                &format!("{block} content seed row col sad"),
-                &sad(),
-            ),
-        ),
         (
             "candidate.txt",
             text(
                 "The SAD and the cost of a candidate.",
-                &format!("{block} content seed row col weight sad cost"),
+                columns,
                 &candidate(),
             ),
         ),
         (
             "diamond.txt",
-            searched("What the diamond search finds.", Search::Diamond),
+            text(
+                "What the diamond search finds.",
+                columns,
+                &search(Search::Diamond),
+            ),
         ),
         (
             "hexagon.txt",
-            searched("What the hexagon search finds.", Search::Hexagon),
+            text(
+                "What the hexagon search finds.",
+                columns,
+                &search(Search::Hexagon),
+            ),
         ),
         (
             "multi_hexagon.txt",
-            searched(
+            text(
                 "What the uneven multi-hexagon search finds.",
-                Search::UnevenMultiHexagon,
+                columns,
+                &search(Search::UnevenMultiHexagon),
             ),
         ),
         (
             "refine.txt",
             text(
-                "What a refinement finds, at its level's shift.",
-                "width height level bx by content seed stored_row stored_col weight out_row out_col sad cost",
+                "What a refinement finds round the stored vector, at its level's shift.",
+                columns,
                 &refine(),
             ),
         ),
@@ -90,7 +74,7 @@ fn main() -> ExitCode {
             "frame.txt",
             text(
                 "One cell that a frame run leaves, and a sum over all of its cells.",
-                "width height content seed present cell row col sad sum",
+                "kind width height - present bx by content seed - - - row col sad sum",
                 &frames(),
             ),
         ),

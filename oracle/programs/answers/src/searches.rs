@@ -1,9 +1,9 @@
 //! The cases of the searches and of the refinement.
 
 use cases::{Random, WEIGHTS, refined_block, searched_block, stored_ends};
-use oracle::{BlockAt, Found, Grid, Search};
+use oracle::{Grid, Search};
 
-use crate::lists::{SEED, line, on_planes};
+use crate::lists::{Kind, SEED, line, on_planes};
 
 const CASES: usize = 40;
 
@@ -32,32 +32,13 @@ fn weight(random: &mut Random, case: usize) -> u32 {
     WEIGHTS.get(case % 5).copied().unwrap_or(any)
 }
 
-/// The line of a case: the block, the content and its seed, a vector, a weight, and what
-/// is found.
-fn numbers(
-    at: &BlockAt,
-    (content, seed): (usize, u64),
-    (row, col): (i16, i16),
-    weight: u32,
-    found: Found,
-) -> String {
-    let block = [at.width, at.height, at.level, at.bx, at.by, content].map(|n| n as i128);
-    let given = [seed.into(), row.into(), col.into(), weight.into()];
-    let found = [
-        found.row.into(),
-        found.col.into(),
-        found.sad.into(),
-        found.cost.into(),
-    ];
-    line(&[&block[..], &given, &found].concat())
-}
-
 pub fn search(search: Search) -> Vec<String> {
-    let mut random = Random::new(match search {
-        Search::Diamond => SEED,
-        Search::Hexagon => SEED + 1,
-        Search::UnevenMultiHexagon => SEED + MULTI_HEXAGON_DRAWS,
-    });
+    let (kind, draws) = match search {
+        Search::Diamond => (Kind::Diamond, 0),
+        Search::Hexagon => (Kind::Hexagon, 1),
+        Search::UnevenMultiHexagon => (Kind::MultiHexagon, MULTI_HEXAGON_DRAWS),
+    };
+    let mut random = Random::new(SEED + draws);
     let answer = |case| {
         let (at, content, seed, oracle) = on_planes(&mut random, case, &CONTENTS, searched_block);
         let range = at.range();
@@ -65,8 +46,15 @@ pub fn search(search: Search) -> Vec<String> {
         // The ends of the columns come in another order, so that each corner is met.
         let col = component(&mut random, case / 2, (range.mvx_min, range.mvx_max));
         let weight = weight(&mut random, case);
+        let given = [
+            content as i128,
+            seed.into(),
+            row.into(),
+            col.into(),
+            weight.into(),
+        ];
         let found = oracle.search(search, &at, row, col, weight);
-        numbers(&at, (content, seed), (row, col), weight, found)
+        line(kind, &at, given, found)
     };
     (0..CASES).map(answer).collect()
 }
@@ -81,6 +69,13 @@ pub fn refine() -> Vec<String> {
         let row = component(&mut random, case, row_ends);
         let col = component(&mut random, case / 2, col_ends);
         let weight = weight(&mut random, case);
+        let given = [
+            content as i128,
+            seed.into(),
+            row.into(),
+            col.into(),
+            weight.into(),
+        ];
         let cells = at.width / 4 * (at.height / 4);
         let grid = Grid {
             rows: vec![row; cells],
@@ -88,7 +83,7 @@ pub fn refine() -> Vec<String> {
             sads: vec![0; cells],
         };
         let found = oracle.refinement(&at, &grid, weight);
-        numbers(&at, (content, seed), (row, col), weight, found)
+        line(Kind::Refine, &at, given, found)
     };
     (0..CASES).map(answer).collect()
 }

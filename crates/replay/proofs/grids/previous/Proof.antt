@@ -1,4 +1,4 @@
--- `replay::grids::previous` is safe: a cell is below 324.
+-- `replay::grids::previous` is safe: a cell is below 1156.
 -- Assumes nothing.
 use Prim.Native.Nat.{_≤_, _-_}
 use native.Mathlib.Omega.{arith}
@@ -6,19 +6,22 @@ use Rattle.replay.proofs.grids.previous.Statement.{statement}
 use Rattle.replay.proofs.grids.previous.Tie as tie
 
 abbrev Inv-loop : tie.InvT-loop
-Inv-loop rows₀ cols₀ sads₀ i₀ rows cols sads i = i ≤ 324
+Inv-loop rows₀ cols₀ sads₀ i₀ rows cols sads i = i ≤ 1156
 
 abbrev μ-loop : tie.MeasureT-loop
-μ-loop rows₀ cols₀ sads₀ i₀ rows cols sads i = 324 - i
+μ-loop rows₀ cols₀ sads₀ i₀ rows cols sads i = 1156 - i
 
 loop-holds : tie.Need-loop-holds Inv-loop μ-loop
 loop-holds c = omega arith
 
-mul-minus : tie.Need-mul-minus Inv-loop μ-loop
-mul-minus c = omega arith
+mul-lowered : tie.Need-mul-lowered Inv-loop μ-loop
+mul-lowered c = omega arith
 
-minus-requires : tie.Need-minus-requires Inv-loop μ-loop
-minus-requires c κs = tt
+add-lowered : tie.Need-add-lowered Inv-loop μ-loop
+add-lowered c = omega arith
+
+lowered-requires : tie.Need-lowered-requires Inv-loop μ-loop
+lowered-requires c κs = tt
 
 mul-cols : tie.Need-mul-cols Inv-loop μ-loop
 mul-cols c = omega arith
@@ -26,14 +29,17 @@ mul-cols c = omega arith
 element-set-from-cols : tie.Need-element-set-from-cols Inv-loop μ-loop
 element-set-from-cols c = omega arith
 
-mul-minus-2 : tie.Need-mul-minus-2 Inv-loop μ-loop
-mul-minus-2 c = omega arith
+mul-lowered-2 : tie.Need-mul-lowered-2 Inv-loop μ-loop
+mul-lowered-2 c = omega arith
 
-minus-requires-2 : tie.Need-minus-requires-2 Inv-loop μ-loop
-minus-requires-2 c κs = tt
+add-lowered-2 : tie.Need-add-lowered-2 Inv-loop μ-loop
+add-lowered-2 c = omega arith
 
-mul-t10 : tie.Need-mul-t10 Inv-loop μ-loop
-mul-t10 c = omega arith
+lowered-requires-2 : tie.Need-lowered-requires-2 Inv-loop μ-loop
+lowered-requires-2 c κs = tt
+
+mul-t7 : tie.Need-mul-t7 Inv-loop μ-loop
+mul-t7 c = omega arith
 
 element-set-from-cols-2 : tie.Need-element-set-from-cols-2 Inv-loop μ-loop
 element-set-from-cols-2 c = omega arith
@@ -69,13 +75,15 @@ previous-spec =
     Inv-loop
     μ-loop
     loop-holds
-    mul-minus
-    minus-requires
+    mul-lowered
+    add-lowered
+    lowered-requires
     mul-cols
     element-set-from-cols
-    mul-minus-2
-    minus-requires-2
-    mul-t10
+    mul-lowered-2
+    add-lowered-2
+    lowered-requires-2
+    mul-t7
     element-set-from-cols-2
     mul-sads
     cast-sads

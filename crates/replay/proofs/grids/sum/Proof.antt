@@ -1,4 +1,4 @@
--- `replay::grids::sum` is safe: a cell is below 324, and the sum stays below the prime.
+-- `replay::grids::sum` is safe: a cell is below 1156, and the sum stays below the prime.
 -- Assumes nothing.
 use Prim.Native.Nat.{_≤_, _<_, _-_}
 use native.Mathlib.Omega.{arith}

@@ -8,10 +8,10 @@ use Rattle.replay.proofs.lines.replayed.Statement.{statement}
 use Rattle.replay.proofs.lines.replayed.Tie as tie
 
 abbrev Inv-loop : tie.InvT-loop
-Inv-loop kind text cur₀ reference₀ tally₀ from₀ cur reference tally from = Within tally from × (from ≤ length text + 1)
+Inv-loop text cur₀ reference₀ tally₀ from₀ cur reference tally from = Within tally from × (from ≤ length text + 1)
 
 abbrev μ-loop : tie.MeasureT-loop
-μ-loop kind text cur₀ reference₀ tally₀ from₀ cur reference tally from = length text + 1 - from
+μ-loop text cur₀ reference₀ tally₀ from₀ cur reference tally from = length text + 1 - from
 
 new-requires : tie.Need-new-requires Inv-loop μ-loop
 new-requires c κs = tt

@@ -7,10 +7,10 @@ use Rattle.replay.proofs.numbers.digits.Statement.{statement}
 use Rattle.replay.proofs.numbers.digits.Tie as tie
 
 abbrev Inv-loop : tie.InvT-loop
-Inv-loop line from size₀ at₀ size at = (from ≤ at) × (at ≤ length line)
+Inv-loop line from value₀ at₀ value at = (from ≤ at) × (at ≤ length line)
 
 abbrev μ-loop : tie.MeasureT-loop
-μ-loop line from size₀ at₀ size at = length line - at
+μ-loop line from value₀ at₀ value at = length line - at
 
 loop-holds : tie.Need-loop-holds Inv-loop μ-loop
 loop-holds c = omega arith
@@ -27,11 +27,11 @@ sub-if3 c = omega arith
 returns : tie.Need-returns Inv-loop μ-loop
 returns c = omega arith
 
-mul-size : tie.Need-mul-size Inv-loop μ-loop
-mul-size c = omega arith
+mul-value : tie.Need-mul-value Inv-loop μ-loop
+mul-value c = omega arith
 
-add-size : tie.Need-add-size Inv-loop μ-loop
-add-size c = omega arith
+add-value : tie.Need-add-value Inv-loop μ-loop
+add-value c = omega arith
 
 add-at : tie.Need-add-at Inv-loop μ-loop
 add-at c = omega arith
@@ -62,8 +62,8 @@ digits-spec =
     cast-digit
     sub-if3
     returns
-    mul-size
-    add-size
+    mul-value
+    add-value
     add-at
     loop-less
     loop-again

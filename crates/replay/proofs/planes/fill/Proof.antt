@@ -1,25 +1,29 @@
--- `replay::planes::fill` is safe: no coordinate is past the number of the sample.
+-- `replay::planes::fill` is safe: no coordinate is past the number of the samples drawn.
 -- Assumes nothing.
 use Prim.Native.Nat.{_≤_, _-_}
 use mathlib.Core.Logic.{⊎-elim}
 use native.Mathlib.Omega.{arith}
+use borrow.Author.Needs.{needs}
 use Rattle.replay.proofs.planes.fill.Statement.{statement}
 use Rattle.replay.proofs.planes.fill.Tie as tie
 
 abbrev Inv-loop : tie.InvT-loop
-Inv-loop plane₀ from to stride content seed which x₀ y₀ i₀ plane x y i = (x ≤ i) × (y ≤ i)
+Inv-loop planes₀ from to stride content seed which x₀ y₀ i₀ planes x y i = (x ≤ i - from) × (y ≤ i - from) × (from ≤ i)
 
 abbrev μ-loop : tie.MeasureT-loop
-μ-loop plane₀ from to stride content seed which x₀ y₀ i₀ plane x y i = to - i
+μ-loop planes₀ from to stride content seed which x₀ y₀ i₀ planes x y i = to - i
 
 loop-holds : tie.Need-loop-holds Inv-loop μ-loop
 loop-holds c = omega arith
 
-sample-requires : tie.Need-sample-requires Inv-loop μ-loop
-sample-requires c κs = omega arith
+value-requires : tie.Need-value-requires Inv-loop μ-loop
+value-requires c κs = omega arith
 
-element-write-plane : tie.Need-element-write-plane Inv-loop μ-loop
-element-write-plane c = omega arith
+cast-planes : tie.Need-cast-planes Inv-loop μ-loop
+cast-planes c = search needs
+
+element-write-planes : tie.Need-element-write-planes Inv-loop μ-loop
+element-write-planes c = omega arith
 
 add-x : tie.Need-add-x Inv-loop μ-loop
 add-x c = omega arith
@@ -46,8 +50,9 @@ fill-spec =
     Inv-loop
     μ-loop
     loop-holds
-    sample-requires
-    element-write-plane
+    value-requires
+    cast-planes
+    element-write-planes
     add-x
     add-y
     add-i

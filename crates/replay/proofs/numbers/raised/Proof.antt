@@ -1,4 +1,4 @@
--- `replay::grids::raised` meets its contract: no component's size is past 32768.
+-- `replay::numbers::raised` meets its contract: no component's size is past 32768.
 -- Assumes nothing.
 use mathlib.Core.Path.{_≡_, ap, _∙_}
 use Prim.Native.Nat.{_≤_}
@@ -8,8 +8,8 @@ use lib.Signed.{natAbs-le}
 use mir.Syntax.{w16}
 use mir.ValLaws.{toZ-ofZ}
 use borrow.Author.Needs.{needs}
-use Rattle.replay.proofs.grids.raised.Statement.{statement}
-use Rattle.replay.proofs.grids.raised.Tie as tie
+use Rattle.replay.proofs.numbers.raised.Statement.{statement}
+use Rattle.replay.proofs.numbers.raised.Tie as tie
 
 small : (c : tie.After-magnitude) → c .magnitude .result ≤ 32768
 small c =

@@ -1,10 +1,10 @@
--- `replay::calls::cell` meets its contract: 33 rows of at most 34 cells lie before the block's.
+-- `replay::grids::cell` meets its contract: 33 rows of at most 34 cells lie before the block's.
 -- Assumes nothing.
 use native.Mathlib.Nat.{mul-le-mul}
 use native.Mathlib.Omega.{arith}
 use Prim.Native.Nat.{_≤_, _*_, _/_}
-use Rattle.replay.proofs.calls.cell.Statement.{statement}
-use Rattle.replay.proofs.calls.cell.Tie as tie
+use Rattle.replay.proofs.grids.cell.Statement.{statement}
+use Rattle.replay.proofs.grids.cell.Tie as tie
 
 before : (c : tie.Start) → c .args .by * (c .args .width / 4) ≤ 33 * 34
 before c = mul-le-mul {n₂ = 33} {m₂ = 34} (omega arith) (omega arith)
