@@ -6,6 +6,7 @@
 //     malformed FILE LINE       its first line that is no case; it counts as read
 //     cannot read FILE          instead of the file's other lines
 //     equal EQUAL of READ       the last line: the cases of all files
+//     expected files of answers: replay FILE..
 mod blocks;
 mod cases;
 mod columns;
@@ -24,6 +25,7 @@ use crate::report::cannot_read;
 use crate::report::equal_of;
 use crate::report::report;
 use crate::tally::Tally;
+use print::text;
 ghost use Prim.Native.Nat.{_<_, _^_};
 ghost use Rattle.io.specs.Counts.{Counts};
 ghost use Rattle.replay.specs.Tally.{Within};
@@ -97,6 +99,10 @@ fn replay_all(file: &mut [u8; TOO_LONG], cur: &mut [u8; SAMPLES], reference: &mu
 // The file and the planes are lent from here: compiled, the prologue of so large a frame can spoil a register that a
 // test before it set, and nothing comes before this one.
 fn main() {
+    if os::arg_count() < 2 {
+        text(b"expected files of answers: replay FILE..\n");
+        return;
+    }
     let mut file = [0u8; TOO_LONG];
     let mut cur = [0u8; SAMPLES];
     let mut reference = [0u8; SAMPLES];
