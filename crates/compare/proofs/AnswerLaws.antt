@@ -6,11 +6,10 @@ use native.Mathlib.Omega.{arith}
 use borrow.Author.Tests.{leb-true, eq-eqb}
 use lib.Dec.{leb}
 use lib.ListN.{length, getD}
-use Rattle.predict.specs.Grid.{Grid}
+use Rattle.grid.specs.Grid.{Grid, room}
 use Rattle.refusal.specs.Tests.{refuse, _then_}
 use Rattle.refusal.proofs.RefusalLaws.{none-of, passes}
 use Rattle.gridfile.specs.declared.read.Shape.{Shape}
-use Rattle.gridfile.specs.Reading.{room}
 use Rattle.compare.specs.Differ.{differing}
 use Rattle.compare.specs.Answer.{compareRefusal, comparisonOf, compareAnswer}
 use Rattle.compare.proofs.DifferLaws.{from-first}

@@ -10,8 +10,8 @@ use mir.Syntax.{w16}
 use mir.Val.{SFits, ofZ, toZ}
 use mir.ValLaws.{toZ-ofZ}
 use Rattle.motion.proofs.TestLaws.{both, same, not-so}
-use Rattle.predict.specs.declared.grid.MEStats.{MEStats}
-use Rattle.predict.specs.Grid.{Grid, statsAt}
+use Rattle.grid.specs.declared.cells.MEStats.{MEStats}
+use Rattle.grid.specs.Grid.{Grid, statsAt}
 use Rattle.compare.specs.Differ.{eqZ, sameCell, differsAt}
 
 -- neither of two numbers is larger

@@ -9,7 +9,7 @@ use native.Mathlib.Numerals.{add-one}
 use native.Mathlib.Omega.{arith}
 use lib.ListN.{length, getD}
 use Rattle.motion.proofs.TestLaws.{tested}
-use Rattle.predict.specs.Grid.{Grid}
+use Rattle.grid.specs.Grid.{Grid}
 use Rattle.compare.specs.Differ.{differsAt, placesFrom, differing}
 
 module _ (f g : Grid) (i to : ℕ) where

@@ -8,13 +8,14 @@ use borrow.Author.Tests.{eqb-true}
 use lib.Dec.{eqb}
 use lib.ListN.{length}
 use Rattle.motion.proofs.TestLaws.{both}
-use Rattle.predict.specs.declared.grid.MEStats.{MEStats}
-use Rattle.predict.specs.Grid.{Grid, statsAt}
+use Rattle.grid.specs.declared.cells.MEStats.{MEStats}
+use Rattle.grid.specs.Grid.{Grid, statsAt, room}
 use Rattle.refusal.proofs.RefusalLaws.{none-of, passes}
-use Rattle.gridfile.specs.Records.{cellRecord, headerRecord}
+use Rattle.records.specs.Records.{cellRecord, headerRecord}
+use Rattle.records.specs.Numbers.{OfBytes}
 use Rattle.gridfile.specs.Writing.{cellRecords, fileOf}
-use Rattle.gridfile.specs.Reading.{room, readRefusal, shapeOf, readAnswer, readGrid}
-use Rattle.gridfile.specs.Keeps.{SameCells, OfBytes, FileOf, OneGrid}
+use Rattle.gridfile.specs.Reading.{readRefusal, shapeOf, readAnswer, readGrid}
+use Rattle.gridfile.specs.Keeps.{SameCells, FileOf, OneGrid}
 use Rattle.gridfile.proofs.Keeps.{accepted}
 use Rattle.compare.specs.Differ.{differing}
 use Rattle.compare.specs.Answer.{compareRefusal, comparisonOf, compareAnswer}

@@ -3,10 +3,9 @@ use Prim.Native.Nat.{ℕ, _*_}
 use mathlib.Core.Bool.{_&&_, cond}
 use lib.Dec.{leb, eqb}
 use lib.ListN.{length, getD}
-use Rattle.predict.specs.Grid.{Grid}
+use Rattle.grid.specs.Grid.{Grid, room}
 use Rattle.refusal.specs.Tests.{refuse, _then_}
 use Rattle.gridfile.specs.declared.read.Shape.{Shape}
-use Rattle.gridfile.specs.Reading.{room}
 use Rattle.compare.specs.declared.calls.Comparison.{Comparison}
 use Rattle.compare.specs.Differ.{differing}
 

@@ -2,9 +2,9 @@
 use mathlib.Core.Path.{_≡_}
 use mathlib.Core.List.{List}
 use Prim.Native.Nat.{ℕ}
-use Rattle.predict.specs.Grid.{Grid}
+use Rattle.grid.specs.Grid.{Grid}
+use Rattle.records.specs.Numbers.{OfBytes}
 use Rattle.gridfile.specs.Reading.{readAnswer, readGrid}
-use Rattle.gridfile.specs.Keeps.{OfBytes}
 use Rattle.compare.specs.declared.calls.Comparison.{Comparison}
 use Rattle.compare.specs.Answer.{compareAnswer}
 

@@ -3,7 +3,7 @@ use mathlib.Core.Path.{_≡_}
 use mathlib.Core.List.{List, _∷_, _++_, List·Memᴰ}
 use Prim.Native.Nat.{ℕ, _+_, _≤_, _<_}
 use lib.ListN.{length, getD}
-use Rattle.predict.specs.Grid.{Grid, statsAt}
+use Rattle.grid.specs.Grid.{Grid, statsAt}
 use Rattle.gridfile.specs.Keeps.{SameCells}
 use Rattle.compare.specs.Differ.{differing}
 

@@ -1,9 +1,9 @@
 use crate::cells::count_differing;
 use crate::cells::next_differing;
+use grid::cells::room;
 use gridfile::read::Shape;
-use gridfile::read::least;
 ghost use mathlib.Core.Path.{_≡_};
-ghost use Rattle.predict.specs.Grid.{gridOf};
+ghost use Rattle.grid.specs.Grid.{gridOf};
 ghost use Rattle.compare.specs.Answer.{compareRefusal, compareAnswer};
 
 // A number of document 02, how many places differ from a cell on, and the first of them.
@@ -54,11 +54,8 @@ pub extern "C" fn lockdapple_grids_compare(
 ) -> Comparison
     ensures { λ r. ⌜ r ≡ compareAnswer first (gridOf (now («first_rows» .entry)) (now («first_cols» .entry)) (now («first_sads» .entry))) second (gridOf (now («second_rows» .entry)) (now («second_cols» .entry)) (now («second_sads» .entry))) from ⌝ }
 {
-    let first_room = least(first_rows.len(), least(first_cols.len(), first_sads.len()));
-    let second_room = least(
-        second_rows.len(),
-        least(second_cols.len(), second_sads.len()),
-    );
+    let first_room = room(first_rows.len(), first_cols.len(), first_sads.len());
+    let second_room = room(second_rows.len(), second_cols.len(), second_sads.len());
     let code = compare_refusal(first, first_room, second, second_room);
     if code != 0 {
         return Comparison {

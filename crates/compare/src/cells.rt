@@ -1,9 +1,9 @@
-use predict::grid::MEStats;
-use predict::grid::stats_at;
+use grid::cells::MEStats;
+use grid::cells::stats_at;
 ghost use mathlib.Core.Path.{_≡_};
 ghost use Prim.Native.Nat.{_≤_, _<_};
 ghost use lib.ListN.{length, getD};
-ghost use Rattle.predict.specs.Grid.{gridOf};
+ghost use Rattle.grid.specs.Grid.{gridOf};
 ghost use Rattle.compare.specs.Differ.{sameCell, differsAt, differing};
 
 fn same_cell(a: MEStats, b: MEStats) -> bool

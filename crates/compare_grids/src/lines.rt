@@ -1,7 +1,8 @@
 use compare::calls::compare_refusal;
 use compare::cells::count_differing;
+use grid::cells::least;
+use grid::cells::room;
 use gridfile::read::Shape;
-use gridfile::read::least;
 use libc::STDOUT_FILENO;
 use report::blocks::put_lines;
 use report::lines::put_last_line;
@@ -115,11 +116,8 @@ pub(crate) fn compare(
 )
     requires { ⌜ Shaped first ⌝ }
 {
-    let first_room = least(first_rows.len(), least(first_cols.len(), first_sads.len()));
-    let second_room = least(
-        second_rows.len(),
-        least(second_cols.len(), second_sads.len()),
-    );
+    let first_room = room(first_rows.len(), first_cols.len(), first_sads.len());
+    let second_room = room(second_rows.len(), second_cols.len(), second_sads.len());
     let code = compare_refusal(first, first_room, second, second_room);
     if code != 0 {
         write_refused(code);

@@ -29,9 +29,9 @@ use Rattle.search.specs.declared.result.MotionSearchResult.{MotionSearchResult}
 use Rattle.search.specs.Result.{CostOf, emptyResult, cheaper, tryOne}
 use Rattle.search.proofs.LeastLaws.{least-each, least-tried, least-cheaper, least-diamond, least-multi}
 use Rattle.search.proofs.FoundLaws.{LooseKept, Settled, loose-empty, loose-one, loose-each, loose-cheaper, loose-diamond, loose-multi, settled}
+use Rattle.grid.specs.Grid.{cells, cellAt}
+use Rattle.grid.proofs.CellLaws.{cell-inside}
 use Rattle.predict.specs.declared.predictors.MotionEstimationSubsets.{MotionEstimationSubsets}
-use Rattle.predict.specs.Grid.{cells, cellAt}
-use Rattle.predict.proofs.InsideLaws.{cell-inside}
 use Rattle.predict.proofs.SubsetLaws.{Sound}
 use Rattle.estimate.specs.Inputs.{Inputs, Leveled, four, three, two, Ready}
 use Rattle.estimate.specs.Block.{Listed, Honest, tryMvs, tryCands, shortSearch, extensiveSearch, fullPixelMe}

@@ -19,12 +19,12 @@ use Rattle.search.specs.Result.{CostOf, emptyResult, cheaper, tryOne, tryEach}
 use Rattle.search.specs.Diamond.{diamond}
 use Rattle.search.specs.MultiHexagon.{multiHexagon}
 use Rattle.search.specs.Full.{refine}
-use Rattle.predict.specs.declared.grid.MEStats.{MEStats}
+use Rattle.grid.specs.declared.cells.MEStats.{MEStats}
+use Rattle.grid.specs.Grid.{Grid, cellAt, storedAt}
+use Rattle.grid.specs.Previous.{Previous}
 use Rattle.predict.specs.declared.predictors.MotionEstimationSubsets.{MotionEstimationSubsets}
-use Rattle.predict.specs.Grid.{Grid, cellAt, storedAt}
 use Rattle.predict.specs.Slots.{slots}
 use Rattle.predict.specs.Predictors.{subsetsOf}
-use Rattle.predict.specs.Previous.{Previous}
 use Rattle.estimate.specs.Inputs.{Inputs}
 
 -- both lists of a predictor record are in five slots

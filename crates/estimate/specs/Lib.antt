@@ -1,4 +1,3 @@
--- What a reader must believe of saving a result, and of the search and the refinement of one block.
-pub mod Save
+-- What a reader must believe of the search and the refinement of one block.
 pub mod Inputs
 pub mod Block

@@ -1,12 +1,12 @@
+use grid::cells::MEStats;
+use grid::cells::cell_at;
+use grid::cells::stored_at;
 use motion::block::Block;
 use motion::block::block_of;
 use motion::level::level_of;
 use motion::vector::MotionVector;
 use points::window::Window;
 use points::window::refine_window;
-use predict::grid::MEStats;
-use predict::grid::cell_at;
-use predict::grid::stored_at;
 use predict::predictors::MotionEstimationSubsets;
 use predict::predictors::get_subset_predictors;
 use search::diamond::fullpel_diamond_search;
@@ -26,9 +26,9 @@ ghost use Rattle.sad.specs.Plane.{Lies};
 ghost use Rattle.sad.specs.Cost.{rdAt};
 ghost use Rattle.points.specs.Window.{windowOk};
 ghost use Rattle.search.specs.Result.{tryOne};
-ghost use Rattle.predict.specs.Grid.{Held, cells, cellAt, gridOf};
+ghost use Rattle.grid.specs.Grid.{Held, cells, cellAt, gridOf};
+ghost use Rattle.grid.specs.Previous.{HeldIf, previousOf};
 ghost use Rattle.predict.specs.Slots.{slots};
-ghost use Rattle.predict.specs.Previous.{HeldIf, previousOf};
 ghost use Rattle.estimate.specs.Inputs.{Ready, Leveled, inputsOf};
 ghost use Rattle.estimate.specs.Block.{Listed, Honest, tryMvs, shortSearch, tryCands, extensiveSearch, fullPixelMe, statsOf, estimateMotion, firstStored, windowAt, refineMotion};
 

@@ -1,3 +1,2 @@
-// Saving a result, and the search and the refinement of one block.
+// The search and the refinement of one block.
 pub mod block;
-pub mod save;

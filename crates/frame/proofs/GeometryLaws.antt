@@ -14,10 +14,10 @@ use Rattle.motion.specs.Level.{levelOf}
 use Rattle.motion.specs.Superblock.{superblocksAlong, superblocks, superblockX, superblockY}
 use Rattle.motion.proofs.AxisLaws.{multiple}
 use Rattle.motion.proofs.LevelLaws.{each-level}
-use Rattle.predict.specs.Grid.{cellAt}
-use Rattle.estimate.specs.Save.{upTo, covers}
+use Rattle.grid.specs.Grid.{cellAt}
+use Rattle.grid.specs.Save.{upTo, covers}
+use Rattle.grid.proofs.SaveLaws.{covers-at}
 use Rattle.frame.specs.Step.{blocksAlong, blockCount, blockX, blockY}
-use Rattle.estimate.proofs.SaveLaws.{covers-at}
 
 -- the block sizes of the table
 pub data Tabled : ℕ → Type 0 where

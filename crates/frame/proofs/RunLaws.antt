@@ -5,8 +5,8 @@ use Prim.Native.Nat.{ℕ, _+_, _<_}
 use native.Mathlib.Numerals.{add-one}
 use lib.ListN.{length, take, getD}
 use lib.Seq.{take-suc}
-use Rattle.predict.specs.Grid.{Grid, Held}
-use Rattle.predict.specs.Previous.{Previous}
+use Rattle.grid.specs.Grid.{Grid, Held}
+use Rattle.grid.specs.Previous.{Previous}
 use Rattle.estimate.specs.Inputs.{Inputs}
 use Rattle.frame.specs.Step.{step}
 use Rattle.frame.specs.Run.{levelRun}

@@ -15,14 +15,14 @@ use Rattle.motion.specs.Block.{blockOf}
 use Rattle.motion.specs.Superblock.{superblocks}
 use Rattle.motion.proofs.EveryLaws.{below-at}
 use Rattle.points.specs.Window.{refineWindow, windowOk}
-use Rattle.predict.specs.declared.grid.MEStats.{MEStats}
-use Rattle.predict.specs.Grid.{Grid, Held, cellAt, statsAt}
-use Rattle.predict.specs.Previous.{Previous}
+use Rattle.grid.specs.declared.cells.MEStats.{MEStats}
+use Rattle.grid.specs.Grid.{Grid, Held, cellAt, statsAt}
+use Rattle.grid.specs.Previous.{Previous}
+use Rattle.grid.specs.Save.{covers, saveBlock}
+use Rattle.grid.proofs.SaveLaws.{save-lengths, read-outside}
 use Rattle.estimate.specs.Inputs.{Inputs}
-use Rattle.estimate.specs.Save.{covers, saveBlock}
 use Rattle.estimate.specs.Block.{estimateMotion, firstStored, windowAt, refineMotion}
 use Rattle.frame.specs.Step.{blockCount, blockX, blockY, worked, refinedCount, windowsOk, refinements, estimates, step}
-use Rattle.estimate.proofs.SaveLaws.{save-lengths, read-outside}
 use Rattle.frame.proofs.GeometryLaws.{Tabled, refined-tabled, apart}
 
 -- a grid whose buffers are as long as another's

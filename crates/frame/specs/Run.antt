@@ -3,8 +3,8 @@ use Prim.Native.Nat.{ℕ}
 use mathlib.Core.Bool.{cond}
 use mathlib.Core.List.{List, [], _∷_}
 use lib.Dec.{eqb}
-use Rattle.predict.specs.Grid.{Grid}
-use Rattle.predict.specs.Previous.{Previous}
+use Rattle.grid.specs.Grid.{Grid}
+use Rattle.grid.specs.Previous.{Previous}
 use Rattle.estimate.specs.Inputs.{Inputs, inputsOf}
 use Rattle.frame.specs.Step.{step}
 

@@ -9,11 +9,11 @@ use Rattle.motion.specs.Level.{levelOf}
 use Rattle.motion.specs.Superblock.{superblockX, superblockY}
 use Rattle.motion.specs.Every.{allBelow}
 use Rattle.points.specs.Window.{windowOk}
-use Rattle.predict.specs.declared.grid.MEStats.{MEStats}
-use Rattle.predict.specs.Grid.{Grid}
-use Rattle.predict.specs.Previous.{Previous}
+use Rattle.grid.specs.declared.cells.MEStats.{MEStats}
+use Rattle.grid.specs.Grid.{Grid}
+use Rattle.grid.specs.Previous.{Previous}
+use Rattle.grid.specs.Save.{saveBlock}
 use Rattle.estimate.specs.Inputs.{Inputs}
-use Rattle.estimate.specs.Save.{saveBlock}
 use Rattle.estimate.specs.Block.{estimateMotion, windowAt, refineMotion}
 
 -- how many blocks of a size lie along a side of the superblock whose first cell is b, cropped at the frame edge

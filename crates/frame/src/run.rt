@@ -4,8 +4,8 @@ ghost use Prim.Native.Nat.{ℕ, _<_};
 ghost use lib.ListN.{length, getD};
 ghost use Rattle.motion.specs.Frame.{Side};
 ghost use Rattle.motion.specs.Superblock.{superblocks};
-ghost use Rattle.predict.specs.Grid.{Held, gridOf};
-ghost use Rattle.predict.specs.Previous.{HeldIf, previousOf};
+ghost use Rattle.grid.specs.Grid.{Held, gridOf};
+ghost use Rattle.grid.specs.Previous.{HeldIf, previousOf};
 ghost use Rattle.estimate.specs.Inputs.{Ready, PlaneHeld, inputsOf};
 ghost use Rattle.frame.specs.Run.{planesOf, levelRun, frameRun};
 

@@ -1,7 +1,7 @@
 use estimate::block::estimate_motion;
 use estimate::block::refine_motion;
 use estimate::block::window_at;
-use estimate::save::save_me_stats;
+use grid::save::save_me_stats;
 use motion::level::level_of;
 use motion::superblock::superblock_x;
 use motion::superblock::superblock_y;
@@ -12,8 +12,8 @@ ghost use lib.ListN.{length};
 ghost use Rattle.motion.specs.Frame.{Side};
 ghost use Rattle.motion.specs.Limits.{largestSide, cellSide, superblockSide};
 ghost use Rattle.motion.specs.Superblock.{superblocks};
-ghost use Rattle.predict.specs.Grid.{Held, cells, gridOf};
-ghost use Rattle.predict.specs.Previous.{HeldIf, previousOf};
+ghost use Rattle.grid.specs.Grid.{Held, cells, gridOf};
+ghost use Rattle.grid.specs.Previous.{HeldIf, previousOf};
 ghost use Rattle.estimate.specs.Inputs.{Ready, Leveled, inputsOf};
 ghost use Rattle.frame.specs.Step.{blocksAlong, blockCount, blockX, blockY, refinedCount, windowsOk, refinements, estimates, step};
 

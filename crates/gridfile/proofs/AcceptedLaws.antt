@@ -11,7 +11,7 @@ use lib.ListN.{length, take, drop, length-append, take-append-drop}
 use lib.Seq.{length-take-le}
 use Rattle.motion.proofs.TestLaws.{tested}
 use Rattle.refusal.specs.Tests.{refuse, _then_}
-use Rattle.gridfile.specs.Records.{mark, cellBytes}
+use Rattle.records.specs.Records.{mark, cellBytes}
 use Rattle.gridfile.specs.Reading.{State, between, refusedAt, begun, marked, next, taken, whole, ended}
 use Rattle.gridfile.proofs.TakenLaws.{refused-stays, first-byte, second-byte, at, at-wrong, at-more}
 

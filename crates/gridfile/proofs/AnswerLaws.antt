@@ -7,10 +7,10 @@ use native.Mathlib.Omega.{arith}
 use borrow.Author.Tests.{ne-eqb}
 use lib.Dec.{eqb}
 use lib.ListN.{length, getD, drop}
-use Rattle.predict.specs.Grid.{Grid}
+use Rattle.grid.specs.Grid.{Grid, room}
+use Rattle.records.specs.Records.{headerBytes}
 use Rattle.gridfile.specs.declared.read.Shape.{Shape}
-use Rattle.gridfile.specs.Records.{headerBytes}
-use Rattle.gridfile.specs.Reading.{State, between, start, taken, kept, room, ended, readRefusal, shapeOf, readAnswer, readGrid}
+use Rattle.gridfile.specs.Reading.{State, between, start, taken, kept, ended, readRefusal, shapeOf, readAnswer, readGrid}
 use Rattle.gridfile.proofs.HeaderLaws.{headNumber}
 use Rattle.gridfile.proofs.OpenedLaws.{Opened, head-refused, opened}
 use Rattle.gridfile.proofs.KeptLaws.{taken-columns, taken-rows, taken-free, kept-free}

@@ -3,11 +3,12 @@ use mathlib.Core.Path.{_≡_, refl}
 use mathlib.Core.List.{List, [], _∷_}
 use Prim.Native.Nat.{ℕ}
 use lib.IntN.{ℤ, pos, negℤ}
-use Rattle.predict.specs.Grid.{Grid, gridOf, storedAt, statsAt, withCell}
+use Rattle.grid.specs.Grid.{Grid, gridOf, storedAt, statsAt, withCell, room}
 use Rattle.refusal.specs.Tests.{refuse, _then_}
-use Rattle.gridfile.specs.Records.{bytesOf, numberOf, headerRecord, cellRecord, cellOf}
+use Rattle.records.specs.Numbers.{bytesOf, numberOf}
+use Rattle.records.specs.Records.{headerRecord, cellRecord, cellOf}
 use Rattle.gridfile.specs.Writing.{cellRecords, fileOf}
-use Rattle.gridfile.specs.Reading.{begun, marked, headerEnd, headerDone, cellDone, recordByte, next, taken, keep, kept, room, whole, ended, readRefusal, shapeOf, readAnswer, readGrid}
+use Rattle.gridfile.specs.Reading.{begun, marked, headerEnd, headerDone, cellDone, recordByte, next, taken, keep, kept, whole, ended, readRefusal, shapeOf, readAnswer, readGrid}
 
 -- two cells across and two down, each with row −24, col −24 and SAD 0
 abbrev components : List ℤ

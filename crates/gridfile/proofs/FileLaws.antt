@@ -9,15 +9,14 @@ use native.Mathlib.Omega.{arith}
 use borrow.Author.Tests.{le-leb, eq-eqb}
 use lib.Dec.{eqb}
 use lib.ListN.{drop}
-use Rattle.predict.specs.declared.grid.MEStats.{MEStats}
-use Rattle.predict.specs.Grid.{Grid, statsAt, withCell}
+use Rattle.grid.specs.declared.cells.MEStats.{MEStats}
+use Rattle.grid.specs.Grid.{Grid, statsAt, withCell, room}
 use Rattle.refusal.specs.Tests.{refuse, _then_}
-use Rattle.gridfile.specs.Records.{headerRecord, cellRecord, FitsCell}
+use Rattle.records.specs.Records.{headerRecord, cellRecord, FitsCell}
+use Rattle.records.proofs.RecordLaws.{length-cell, cell-back}
 use Rattle.gridfile.specs.Writing.{cellRecords, fileOf}
-use Rattle.gridfile.specs.Reading.{State, between, start, marked, headerEnd, taken, kept, room, ended, readRefusal, shapeOf, readAnswer, readGrid}
+use Rattle.gridfile.specs.Reading.{State, between, start, marked, headerEnd, taken, kept, ended, readRefusal, shapeOf, readAnswer, readGrid}
 use Rattle.gridfile.specs.Keeps.{FitsCells, SameCells, SamePast}
-use Rattle.gridfile.proofs.WriteLaws.{length-cell}
-use Rattle.gridfile.proofs.RecordLaws.{cell-back}
 use Rattle.gridfile.proofs.TakenLaws.{taken-append, kept-append, record-taken, record-kept}
 use Rattle.gridfile.proofs.AcceptedLaws.{all-there}
 use Rattle.gridfile.proofs.HeaderLaws.{fourth-taken, header-kept}

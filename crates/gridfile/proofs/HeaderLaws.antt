@@ -9,11 +9,11 @@ use borrow.Author.Tests.{lt-ltb, le-ltb, le-leb, lt-leb, eq-eqb, ne-eqb}
 use lib.Dec.{leb, ltb}
 use lib.ListN.{length, getD, take}
 use Rattle.motion.proofs.TestLaws.{tested}
-use Rattle.predict.specs.Grid.{Grid}
+use Rattle.grid.specs.Grid.{Grid}
 use Rattle.refusal.specs.Tests.{refuse, _then_}
-use Rattle.gridfile.specs.Records.{headerBytes}
-use Rattle.gridfile.proofs.TakenLaws.{refused-stays, byte-wrong, byte-more, byte-last, past-mark}
+use Rattle.records.specs.Records.{headerBytes}
 use Rattle.gridfile.specs.Reading.{State, start, refusedAt, begun, marked, headerEnd, headerDone, recordByte, next, taken, keep, kept}
+use Rattle.gridfile.proofs.TakenLaws.{refused-stays, byte-wrong, byte-more, byte-last, past-mark}
 
 -- the number of the header: its refusal, or 11 where it has not ended
 abbrev pub stateNumber : State → ℕ

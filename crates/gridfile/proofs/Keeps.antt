@@ -10,12 +10,12 @@ use lib.ListN.{length, getD, take, drop}
 use lib.Seq.{take-at}
 use Rattle.motion.specs.Limits.{sideStep, largestSide, cellSide}
 use Rattle.motion.specs.Frame.{Side}
-use Rattle.predict.specs.Grid.{Grid, Held, cells, statsAt}
+use Rattle.grid.specs.Grid.{Grid, Held, cells, statsAt, room}
 use Rattle.refusal.specs.Tests.{refuse, _then_, sideOk, gridOk, gridHolds}
+use Rattle.records.specs.Records.{headerRecord, fileBytes}
 use Rattle.gridfile.specs.declared.read.Shape.{Shape}
-use Rattle.gridfile.specs.Records.{headerRecord, fileBytes}
 use Rattle.gridfile.specs.Writing.{fileOf, writeRefusal, writtenOf, writeAnswer, writtenFile}
-use Rattle.gridfile.specs.Reading.{room, shapeOf, readAnswer, readGrid}
+use Rattle.gridfile.specs.Reading.{shapeOf, readAnswer, readGrid}
 use Rattle.gridfile.specs.Keeps.{SameCells, written, ReadsBack, WriteThenRead, WritesBack, ReadThenWrite, FileOf, OneGrid, Accepted}
 use Rattle.gridfile.proofs.WriteLaws.{Writes, writes, length-file}
 use Rattle.gridfile.proofs.KeptLaws.{same-room, read-lengths}

@@ -11,10 +11,10 @@ use lib.Dec.{ltb, eqb}
 use lib.IntN.{pos}
 use lib.ListN.{length, length-set}
 use lib.Seq.{getD-set-same, getD-set-other}
-use Rattle.predict.specs.declared.grid.MEStats.{MEStats}
-use Rattle.predict.specs.Grid.{Grid, storedAt, statsAt, withCell}
-use Rattle.gridfile.specs.Records.{cellOf}
-use Rattle.gridfile.specs.Reading.{State, start, refusedAt, begun, marked, headerEnd, headerDone, cellDone, recordByte, next, taken, keep, kept, room, readRefusal, readGrid}
+use Rattle.grid.specs.declared.cells.MEStats.{MEStats}
+use Rattle.grid.specs.Grid.{Grid, storedAt, statsAt, withCell, room}
+use Rattle.records.specs.Records.{cellOf}
+use Rattle.gridfile.specs.Reading.{State, start, refusedAt, begun, marked, headerEnd, headerDone, cellDone, recordByte, next, taken, keep, kept, readRefusal, readGrid}
 
 -- buffers as long as another grid's
 pub record SameLengths (h g : Grid) : Type 0 where

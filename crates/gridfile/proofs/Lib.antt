@@ -1,6 +1,5 @@
 -- Laws that several proofs cite, and the theorems of specs/Keeps.antt.
 pub mod WriteLaws
-pub mod RecordLaws
 pub mod TakenLaws
 pub mod AcceptedLaws
 pub mod HeaderLaws

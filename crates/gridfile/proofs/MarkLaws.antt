@@ -9,9 +9,10 @@ use lib.Seq.{slice, drop-cons, drop-drop, length-take-le, take-at}
 use mir.Syntax.{w8}
 use mir.Val.{Fits}
 use Rattle.motion.proofs.TestLaws.{both, not-so}
-use Rattle.gridfile.specs.Records.{mark, cellBytes, numberOf}
+use Rattle.records.specs.Records.{mark, cellBytes}
+use Rattle.records.specs.Numbers.{numberOf}
+use Rattle.records.proofs.NumberLaws.{take-drop, two-bytes}
 use Rattle.gridfile.specs.Reading.{marked}
-use Rattle.gridfile.proofs.WriteLaws.{take-drop, two-bytes}
 use Rattle.gridfile.proofs.TakenLaws.{first-byte, second-byte, first-right, second-right}
 
 -- whether it starts with the mark

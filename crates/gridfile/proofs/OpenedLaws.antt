@@ -10,10 +10,10 @@ use borrow.Author.Tests.{eqb-true, leb-true}
 use lib.Dec.{leb, eqb}
 use lib.ListN.{take}
 use Rattle.motion.proofs.TestLaws.{tested, both}
-use Rattle.predict.specs.Grid.{Grid}
+use Rattle.grid.specs.Grid.{Grid}
 use Rattle.refusal.specs.Tests.{refuse, _then_}
 use Rattle.refusal.proofs.RefusalLaws.{first-passed, passes, then-first}
-use Rattle.gridfile.specs.Records.{mark}
+use Rattle.records.specs.Records.{mark}
 use Rattle.gridfile.specs.Reading.{State, between, start, refusedAt, begun, marked, headerEnd, taken, kept, whole, ended}
 use Rattle.gridfile.proofs.TakenLaws.{refused-stays, first-byte, second-byte}
 use Rattle.gridfile.proofs.HeaderLaws.{headNumber, stateNumber, head, first-wrong, first-taken, second-wrong, second-taken, third-taken, fourth-taken, header-kept, number-refused, number-begun, number-ended}

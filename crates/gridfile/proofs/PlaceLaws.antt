@@ -13,7 +13,7 @@ use lib.Seq.{drop-cons, getD-drop}
 use Rattle.motion.specs.Every.{allBelow}
 use Rattle.motion.proofs.TestLaws.{tested, both, same}
 use Rattle.refusal.specs.Tests.{refuse, _then_}
-use Rattle.gridfile.specs.Records.{mark, cellBytes, fileBytes}
+use Rattle.records.specs.Records.{mark, cellBytes, fileBytes}
 use Rattle.gridfile.specs.Reading.{State, between, begun, marked, taken, ended}
 use Rattle.gridfile.proofs.TakenLaws.{taken-append, at-more, part-taken, record-taken}
 use Rattle.gridfile.proofs.MarkLaws.{markedAt, eight, behind, eight-long, two-eight, record-at}

@@ -6,12 +6,14 @@ use Prim.Native.Nat.{ℕ, zero, suc, _+_, _*_, _≤_, _<_}
 use native.Mathlib.Nat.{eq-or-lt-of-le}
 use native.Mathlib.Omega.{arith}
 use lib.ListN.{length}
-use Rattle.predict.specs.Grid.{Grid, statsAt, withCell}
-use Rattle.gridfile.specs.Records.{mark, headerRecord, cellRecord, cellOf, FitsCell}
+use Rattle.grid.specs.Grid.{Grid, statsAt, withCell, room}
+use Rattle.records.specs.Records.{mark, headerRecord, cellRecord, cellOf, FitsCell}
+use Rattle.records.specs.Numbers.{OfBytes}
+use Rattle.records.proofs.NumberLaws.{bytes-front, bytes-back}
+use Rattle.records.proofs.RecordLaws.{cell-fits, cell-again}
 use Rattle.gridfile.specs.Writing.{cellRecords, fileOf}
-use Rattle.gridfile.specs.Reading.{State, between, taken, kept, room, ended, readRefusal, readGrid}
-use Rattle.gridfile.specs.Keeps.{OfBytes, FitsCells}
-use Rattle.gridfile.proofs.RecordLaws.{bytes-front, bytes-back, cell-fits, cell-again}
+use Rattle.gridfile.specs.Reading.{State, between, taken, kept, ended, readRefusal, readGrid}
+use Rattle.gridfile.specs.Keeps.{FitsCells}
 use Rattle.gridfile.proofs.TakenLaws.{taken-append, kept-append, record-taken, record-kept}
 use Rattle.gridfile.proofs.AcceptedLaws.{accepted-record, accepted-end}
 use Rattle.gridfile.proofs.OpenedLaws.{Opened, accepted-header}

@@ -7,8 +7,8 @@ use native.Mathlib.Omega.{arith}
 use borrow.Author.Tests.{lt-ltb, le-ltb, le-leb, eqb-true, eq-eqb, ne-eqb}
 use lib.ListN.{length, getD, take, length-append}
 use lib.Seq.{take-suc, take-all, length-take-le}
-use Rattle.predict.specs.Grid.{Grid, withCell}
-use Rattle.gridfile.specs.Records.{mark, cellBytes, cellOf}
+use Rattle.grid.specs.Grid.{Grid, withCell}
+use Rattle.records.specs.Records.{mark, cellBytes, cellOf}
 use Rattle.gridfile.specs.Reading.{State, between, refusedAt, begun, marked, cellDone, recordByte, next, taken, keep, kept}
 
 -- one fragment after another

@@ -5,14 +5,11 @@ use Prim.Native.Nat.{ℕ, _*_, _/_, _≤_, _<_}
 use lib.ListN.{length, getD, take, drop}
 use Rattle.motion.specs.Limits.{cellSide}
 use Rattle.motion.specs.Frame.{Side}
-use Rattle.predict.specs.Grid.{Grid, Held, cells, statsAt}
-use Rattle.gridfile.specs.Records.{FitsCell, fileBytes}
+use Rattle.grid.specs.Grid.{Grid, Held, cells, statsAt}
+use Rattle.records.specs.Numbers.{OfBytes}
+use Rattle.records.specs.Records.{FitsCell, fileBytes}
 use Rattle.gridfile.specs.Writing.{fileOf, writeRefusal, writtenOf, writeAnswer, writtenFile}
 use Rattle.gridfile.specs.Reading.{readRefusal, shapeOf, readAnswer, readGrid}
-
--- a list of bytes
-abbrev pub OfBytes : List ℕ → Type 0
-OfBytes file = (k : ℕ) → getD file k 0 < 256
 
 -- the numbers of a grid's first n cells, as its buffers hold them
 abbrev pub FitsCells : ℕ → Grid → Type 0

@@ -1,5 +1,4 @@
--- What a reader must believe of a grid file: its records, how it is written and read, and what is promised of both together.
-pub mod Records
+-- What a reader must believe of a grid file: how it is written and read, and what is promised of both together.
 pub mod Writing
 pub mod Reading
 pub mod Keeps

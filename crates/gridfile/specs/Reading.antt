@@ -1,13 +1,13 @@
 -- Reading: a fold over the bytes, one a turn, from the front; what is refused, and the grid that it leaves.
-use Prim.Native.Nat.{ℕ, suc, _+_, _*_, _%_, min}
+use Prim.Native.Nat.{ℕ, suc, _+_, _*_, _%_}
 use mathlib.Core.Bool.{Bool, _&&_, _||_, cond}
 use mathlib.Core.List.{List, [], _∷_, _++_}
 use lib.Dec.{leb, ltb, eqb}
 use lib.ListN.{length, getD}
-use Rattle.predict.specs.Grid.{Grid, withCell}
+use Rattle.grid.specs.Grid.{Grid, withCell, room}
 use Rattle.refusal.specs.Tests.{refuse, _then_}
+use Rattle.records.specs.Records.{mark, headerBytes, cellBytes, cellOf}
 use Rattle.gridfile.specs.declared.read.Shape.{Shape}
-use Rattle.gridfile.specs.Records.{mark, headerBytes, cellBytes, cellOf}
 
 -- what is known after some bytes: the refusal, 0 for none; what the header said, 0 before it ended; how many cells are
 -- whole; the bytes so far of the record that comes next
@@ -83,10 +83,6 @@ keep room s byte g =
 unfoldable pub kept : ℕ → State → List ℕ → Grid → Grid
 kept room s [] g = g
 kept room s (byte ∷ bytes) g = kept room (next room s byte) bytes (keep room s byte g)
-
--- the cells that a lent grid has room for: its shortest buffer counts
-unfoldable pub room : Grid → ℕ
-room g = min (length (g .rows)) (min (length (g .cols)) (length (g .sads)))
 
 -- 11 where bytes run out: before the header ended, or before its last cell
 unfoldable pub whole : State → Bool

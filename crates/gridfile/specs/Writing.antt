@@ -5,10 +5,10 @@ use mathlib.Core.List.{List, [], _++_}
 use lib.Dec.{leb, eqb}
 use lib.ListN.{length, drop}
 use Rattle.motion.specs.Limits.{cellSide}
-use Rattle.predict.specs.Grid.{Grid, cells, statsAt}
+use Rattle.grid.specs.Grid.{Grid, cells, statsAt}
 use Rattle.refusal.specs.Tests.{refuse, _then_, sideOk, gridHolds}
+use Rattle.records.specs.Records.{headerRecord, cellRecord, fileBytes}
 use Rattle.gridfile.specs.declared.write.Written.{Written}
-use Rattle.gridfile.specs.Records.{headerRecord, cellRecord, fileBytes}
 
 -- the records of so many cells, from one on, in raster order
 unfoldable pub cellRecords : Grid → ℕ → ℕ → List ℕ

@@ -1,4 +1,3 @@
 // A grid on disk: its file written into lent bytes, and read from them.
 pub mod read;
-pub mod records;
 pub mod write;

@@ -1,15 +1,16 @@
-use crate::records::get_16;
-use crate::records::get_cell;
-use predict::grid::save_cell;
+use grid::cells::room;
+use grid::cells::save_cell;
+use records::numbers::get_16;
+use records::parts::get_cell;
 ghost use mathlib.Core.Path.{_≡_};
 ghost use mathlib.Core.Bool.{_&&_};
-ghost use Prim.Native.Nat.{_+_, _*_, _≤_, _<_, min};
+ghost use Prim.Native.Nat.{_+_, _*_, _≤_, _<_};
 ghost use lib.ListN.{length, getD, take, drop};
 ghost use lib.Dec.{ltb};
 ghost use Rattle.motion.specs.Every.{allBelow};
-ghost use Rattle.predict.specs.Grid.{gridOf};
+ghost use Rattle.grid.specs.Grid.{gridOf};
 ghost use Rattle.refusal.specs.Tests.{refuse, _then_};
-ghost use Rattle.gridfile.specs.Records.{headerBytes, fileBytes};
+ghost use Rattle.records.specs.Records.{headerBytes, fileBytes};
 ghost use Rattle.gridfile.specs.Reading.{marked, between, start, taken, kept, ended, readAnswer, readGrid};
 
 // A number of document 02, and columns and rows of cells.
@@ -18,12 +19,6 @@ pub struct Shape {
     pub code: u32,
     pub columns: u32,
     pub rows: u32,
-}
-
-pub fn least(a: usize, b: usize) -> usize
-    ensures { λ r. ⌜ r ≡ min a b ⌝ }
-{
-    if a < b { a } else { b }
 }
 
 // A mark of which bytes may be missing.
@@ -143,7 +138,7 @@ pub extern "C" fn lockdapple_grid_read(
     ensures { λ r. ⌜ r ≡ readAnswer (now (file .entry)) (gridOf (now (rows .entry)) (now (cols .entry)) (now (sads .entry))) ⌝ }
     ensures { λ r. ⌜ gridOf (now (rows .exit)) (now (cols .exit)) (now (sads .exit)) ≡ readGrid (now (file .entry)) (gridOf (now (rows .entry)) (now (cols .entry)) (now (sads .entry))) ⌝ }
 {
-    let code = header_refusal(file, least(rows.len(), least(cols.len(), sads.len())));
+    let code = header_refusal(file, room(rows.len(), cols.len(), sads.len()));
     if code != 0 {
         return Shape {
             code,

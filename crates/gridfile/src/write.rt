@@ -1,14 +1,14 @@
-use crate::records::put_cell;
-use crate::records::put_header;
-use predict::grid::stats_at;
+use grid::cells::stats_at;
+use records::parts::put_cell;
+use records::parts::put_header;
 use refusal::tests::grid_ok;
 use refusal::tests::side_ok;
 ghost use mathlib.Core.Path.{_≡_};
 ghost use Prim.Native.Nat.{_%_, _≤_};
 ghost use lib.ListN.{length};
 ghost use lib.Seq.{sets};
-ghost use Rattle.predict.specs.Grid.{gridOf};
-ghost use Rattle.gridfile.specs.Records.{headerBytes, fileBytes};
+ghost use Rattle.grid.specs.Grid.{gridOf};
+ghost use Rattle.records.specs.Records.{headerBytes, fileBytes};
 ghost use Rattle.gridfile.specs.Writing.{cellRecords, writeRefusal, writeAnswer, writtenFile};
 
 // A number of document 01 or 02, and how many bytes the file has.

@@ -6,14 +6,14 @@ use Prim.Native.Nat.{ℕ}
 use native.Mathlib.Omega.{arith}
 use borrow.Author.Tests.{eq-eqb, ne-eqb}
 use Rattle.motion.specs.Superblock.{superblocksAlong}
-use Rattle.predict.specs.Grid.{Grid}
-use Rattle.predict.specs.Previous.{previous}
-use Rattle.order.specs.List.{listRefusal}
+use Rattle.grid.specs.Grid.{Grid}
+use Rattle.grid.specs.Previous.{previous}
+use Rattle.refusal.specs.Tests.{refuse, _then_}
+use Rattle.refusal.proofs.RefusalLaws.{first-is, then-later}
 use Rattle.estimate.specs.Inputs.{inputsOf}
 use Rattle.frame.specs.Step.{windowsOk, step}
 use Rattle.frame.specs.Run.{Planes, frameRun}
-use Rattle.refusal.specs.Tests.{refuse, _then_}
-use Rattle.refusal.proofs.RefusalLaws.{first-is, then-later}
+use Rattle.order.specs.List.{listRefusal}
 use Rattle.inter.specs.Steps.{stepTests, stepRefusal, stepGrid}
 use Rattle.inter.specs.Runs.{runTests, runRefusal, runGrid}
 

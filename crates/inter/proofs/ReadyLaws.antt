@@ -12,14 +12,14 @@ use lib.ListN.{length, getD}
 use Rattle.motion.specs.Frame.{Side}
 use Rattle.motion.specs.Superblock.{superblocksAlong, superblocks}
 use Rattle.motion.proofs.TestLaws.{both, either}
-use Rattle.predict.specs.Grid.{Grid}
-use Rattle.order.specs.List.{mostSuperblocks, listRefusal}
-use Rattle.order.proofs.Accepted.{accepted}
-use Rattle.estimate.specs.Inputs.{Leveled, PlaneHeld, Ready, inputsOf, four, three, two}
-use Rattle.frame.specs.Run.{Planes, planeAt}
+use Rattle.grid.specs.Grid.{Grid}
 use Rattle.refusal.specs.Tests.{refuse, _then_, sideOk, levelOk, planesRefusal, gridsHold}
 use Rattle.refusal.proofs.RefusalLaws.{first-passed, passes, none-of, side-of, lent}
 use Rattle.refusal.proofs.GridsLaws.{GridsHeld, grids-held}
+use Rattle.estimate.specs.Inputs.{Leveled, PlaneHeld, Ready, inputsOf, four, three, two}
+use Rattle.frame.specs.Run.{Planes, planeAt}
+use Rattle.order.specs.List.{mostSuperblocks, listRefusal}
+use Rattle.order.proofs.Accepted.{accepted}
 use Rattle.inter.specs.Steps.{stepTests}
 use Rattle.inter.specs.Runs.{lentRefusal, runTests}
 

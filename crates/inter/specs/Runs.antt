@@ -5,11 +5,11 @@ use mathlib.Core.List.{List}
 use lib.Dec.{eqb}
 use lib.ListN.{length}
 use Rattle.motion.specs.Superblock.{superblocksAlong}
-use Rattle.predict.specs.Grid.{Grid}
-use Rattle.predict.specs.Previous.{previous}
+use Rattle.grid.specs.Grid.{Grid}
+use Rattle.grid.specs.Previous.{previous}
+use Rattle.refusal.specs.Tests.{refuse, _then_, sideOk, planesRefusal, gridsHold}
 use Rattle.frame.specs.Run.{Planes, planeAt, frameRun}
 use Rattle.order.specs.List.{listRefusal}
-use Rattle.refusal.specs.Tests.{refuse, _then_, sideOk, planesRefusal, gridsHold}
 
 -- 4: the two planes of a level
 unfoldable pub lentRefusal : ℕ → ℕ → Planes → Planes → ℕ → ℕ

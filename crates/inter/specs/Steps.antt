@@ -5,11 +5,11 @@ use mathlib.Core.List.{List}
 use lib.Dec.{ltb, eqb}
 use lib.ListN.{length}
 use Rattle.motion.specs.Superblock.{superblocks}
-use Rattle.predict.specs.Grid.{Grid}
-use Rattle.predict.specs.Previous.{previous}
+use Rattle.grid.specs.Grid.{Grid}
+use Rattle.grid.specs.Previous.{previous}
+use Rattle.refusal.specs.Tests.{refuse, _then_, sideOk, levelOk, planesRefusal, gridsHold}
 use Rattle.estimate.specs.Inputs.{inputsOf}
 use Rattle.frame.specs.Step.{windowsOk, step}
-use Rattle.refusal.specs.Tests.{refuse, _then_, sideOk, levelOk, planesRefusal, gridsHold}
 
 -- numbers 1 to 5 of a step that uses these two planes; 3: the superblock number is not in the frame
 unfoldable pub stepTests : ℕ → ℕ → ℕ → ℕ → List ℕ → List ℕ → ℕ → Grid → Grid → ℕ

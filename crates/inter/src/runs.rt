@@ -5,7 +5,7 @@ use refusal::tests::grids_hold;
 use refusal::tests::planes_refusal;
 use refusal::tests::side_ok;
 ghost use mathlib.Core.Path.{_≡_};
-ghost use Rattle.predict.specs.Grid.{gridOf};
+ghost use Rattle.grid.specs.Grid.{gridOf};
 ghost use Rattle.frame.specs.Run.{planesOf};
 ghost use Rattle.inter.specs.Runs.{runTests, runRefusal, runGrid};
 

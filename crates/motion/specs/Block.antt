@@ -1,10 +1,10 @@
 -- Planes and blocks at a level.
 use Prim.Native.Nat.{ℕ, _+_, _-_, _*_, _/_, _^_, min}
-use Rattle.motion.specs.Limits.{cellSide}
-use Rattle.motion.specs.Range.{rangeOf}
 use Rattle.motion.specs.declared.level.Level.{Level}
 use Rattle.motion.specs.declared.block.Plane.{Plane}
 use Rattle.motion.specs.declared.block.Block.{Block}
+use Rattle.motion.specs.Limits.{cellSide}
+use Rattle.motion.specs.Range.{rangeOf}
 
 -- a plane at shift s has stride (W>>s)+2P and (H>>s)+2P rows
 unfoldable pub planeOf : ℕ → ℕ → Level → Plane

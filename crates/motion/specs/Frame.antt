@@ -1,9 +1,9 @@
 -- Which frames, levels and blocks there are.
 use mathlib.Core.Path.{_≡_}
 use Prim.Native.Nat.{ℕ, _*_, _/_, _%_, _≤_, _<_}
+use Rattle.motion.specs.declared.level.Level.{Level}
 use Rattle.motion.specs.Limits.{sideStep, largestSide, cellSide}
 use Rattle.motion.specs.Level.{level4, level3, level2}
-use Rattle.motion.specs.declared.level.Level.{Level}
 
 -- width and height: multiples of 8, from 8 to 1,024
 pub record Side (n : ℕ) : Type 0 where

@@ -4,9 +4,9 @@ use mathlib.Core.Bool.{Bool, _&&_}
 use lib.IntN.{ℤ, pos, negℤ, _+ℤ_, _-ℤ_, _*ℤ_}
 use lib.Signed.{leZ, shrZ}
 use mir.Val.{sel}
-use Rattle.motion.specs.Limits.{vectorLimit}
 use Rattle.motion.specs.declared.vector.MotionVector.{MotionVector}
 use Rattle.motion.specs.declared.range.MvRange.{MvRange}
+use Rattle.motion.specs.Limits.{vectorLimit}
 
 -- the minimum: −32bx − 128 − 8bw, and rows likewise
 unfoldable pub mvMin : ℕ → ℕ → ℤ

@@ -4,8 +4,8 @@ use lib.IntN.{ℤ, pos, natAbs, _+ℤ_, _*ℤ_}
 use lib.Signed.{shrZ, quotZ}
 use mir.Syntax.{w16}
 use mir.Val.{SFits}
-use Rattle.motion.specs.Limits.{vectorLimit}
 use Rattle.motion.specs.declared.vector.MotionVector.{MotionVector}
+use Rattle.motion.specs.Limits.{vectorLimit}
 
 -- both components are signed 16-bit numbers
 pub record FitsV (v : MotionVector) : Type 0 where

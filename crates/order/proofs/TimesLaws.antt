@@ -11,10 +11,10 @@ use borrow.Author.Tests.{ltb-true, lt-ltb, eqb-true, eqb-false, eq-eqb, ne-eqb}
 use lib.Dec.{ltb, eqb}
 use lib.ListN.{length, getD, take, drop, take-append-drop}
 use lib.Seq.{take-suc, drop-cons}
-use Rattle.motion.proofs.TestLaws.{both, tested}
 use Rattle.motion.specs.Every.{allBelow}
-use Rattle.order.specs.List.{times, allIn, namesEach}
+use Rattle.motion.proofs.TestLaws.{both, tested}
 use Rattle.motion.proofs.EveryLaws.{below-at, below-of}
+use Rattle.order.specs.List.{times, allIn, namesEach}
 use Rattle.order.proofs.AllLaws.{in-at, in-of}
 
 pub times-here : (n : ℕ) (xs : List ℕ) → times n (n ∷ xs) ≡ suc (times n xs)

@@ -2,8 +2,8 @@
 use Prim.Native.Nat.{ℕ, _*_, _/_, _^_, _≤_, _<_}
 use native.Mathlib.Nat.{mul-le-mul, mul-le-mul-left, div-le-self}
 use native.Mathlib.Omega.{arith}
-use Rattle.motion.specs.Limits.{largestSide}
 use Rattle.motion.specs.declared.level.Level.{Level}
+use Rattle.motion.specs.Limits.{largestSide}
 use Rattle.motion.specs.Level.{levelOf}
 use Rattle.motion.specs.Block.{croppedTo, blockOf}
 use Rattle.motion.proofs.LevelLaws.{each-level}

@@ -7,16 +7,13 @@ use native.Mathlib.Omega.{arith}
 use lib.ListN.{length, take, getD}
 use Rattle.motion.specs.Level.{levelOf}
 use Rattle.motion.specs.Frame.{Placed}
+use Rattle.grid.specs.Grid.{Grid, Held, cells}
+use Rattle.grid.proofs.CellLaws.{reached}
 use Rattle.predict.specs.declared.sampled.Cells.{Cells}
-use Rattle.predict.specs.Grid.{Grid, Held, cells}
 use Rattle.predict.specs.Slots.{slots, cellsOf}
 use Rattle.predict.specs.Sampled.{cellsC}
 use Rattle.predict.proofs.SlotLaws.{slots-all, slots-filled, slots-read}
 use Rattle.predict.proofs.InsideLaws.{c-inside}
-
--- a cell of the frame is below the length of each buffer of a grid that holds its cells
-pub reached : {width height i : ℕ} {g : Grid} → Held width height g → i < cells width height → (i < length (g .rows)) × (i < length (g .cols)) × (i < length (g .sads))
-reached held below = (omega (arith, held .rows), omega (arith, held .cols), omega (arith, held .sads))
 
 -- each cell's number is below the length of each buffer of a grid
 abbrev pub Reaches : List ℕ → ℕ → Grid → Type 0

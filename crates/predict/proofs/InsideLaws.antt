@@ -15,15 +15,9 @@ use Rattle.motion.specs.Frame.{Side, Starts, Sized, Placed, own4, own3, own2, r
 use Rattle.motion.specs.Block.{croppedTo}
 use Rattle.motion.proofs.TestLaws.{both}
 use Rattle.motion.proofs.AxisLaws.{fitting}
-use Rattle.predict.specs.Grid.{cells, cellAt}
+use Rattle.grid.specs.Grid.{cells, cellAt}
+use Rattle.grid.proofs.CellLaws.{cell-inside}
 use Rattle.predict.specs.Sampled.{cellsAlong, taken, neighbours, centreCell, oddBlock, cellsB, cellsC, cellsCentre}
-
--- a column and a row inside the frame give one of its cells
-pub cell-inside : (width height x y : ℕ) → x < width / cellSide → y < height / cellSide → cellAt width x y < cells width height
-unfolding cells cellAt
-cell-inside width height x y hx hy =
-    let rows = mul-le-mul-right {m = y + 1} {n = height / cellSide} (width / cellSide) (omega arith) in
-    omega (arith, rows, add-mul y 1 (width / cellSide), mul-comm (width / cellSide) (height / cellSide))
 
 -- every number of a list is below n
 record Below (n : ℕ) (is : List ℕ) : Type 0 where

@@ -7,7 +7,7 @@ use native.Mathlib.Numerals.{add-one}
 use native.Mathlib.Omega.{arith}
 use lib.ListN.{length, take, getD}
 use lib.Seq.{take-suc}
-use Rattle.predict.specs.Grid.{Grid, statsAt}
+use Rattle.grid.specs.Grid.{Grid, statsAt}
 use Rattle.predict.specs.Predictors.{sadsAt, leastOf}
 
 -- no least is above that of no cells

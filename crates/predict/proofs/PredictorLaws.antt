@@ -8,7 +8,7 @@ use lib.ListN.{length, take, getD, set, length-map}
 use lib.Seq.{length-take-le, take-suc}
 use Rattle.motion.specs.declared.range.MvRange.{MvRange}
 use Rattle.motion.specs.Vector.{zeroV}
-use Rattle.predict.specs.Grid.{Grid, statsAt}
+use Rattle.grid.specs.Grid.{Grid, statsAt}
 use Rattle.predict.specs.Slots.{slots, slotted}
 use Rattle.predict.specs.Predictors.{predictor, predictorsAt}
 use Rattle.predict.proofs.SlotLaws.{slots-next}

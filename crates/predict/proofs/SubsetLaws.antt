@@ -9,10 +9,10 @@ use lib.Seq.{getD-append-seam}
 use Rattle.motion.specs.Vector.{zeroV}
 use Rattle.motion.specs.Level.{levelOf}
 use Rattle.motion.specs.Block.{blockOf}
-use Rattle.predict.specs.Grid.{Grid}
+use Rattle.grid.specs.Grid.{Grid}
+use Rattle.predict.specs.declared.predictors.MotionEstimationSubsets.{MotionEstimationSubsets}
 use Rattle.predict.specs.Slots.{slots}
 use Rattle.predict.specs.Sampled.{cellsB, cellsC}
-use Rattle.predict.specs.declared.predictors.MotionEstimationSubsets.{MotionEstimationSubsets}
 use Rattle.predict.specs.Predictors.{predictorsAt, subsetsOf}
 use Rattle.predict.proofs.SampledLaws.{b-few, c-few}
 use Rattle.predict.proofs.PredictorLaws.{predictors-count}

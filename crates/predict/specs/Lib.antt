@@ -1,6 +1,4 @@
--- What a reader must believe of the grid's cells and of the predictors.
-pub mod Grid
-pub mod Previous
+-- What a reader must believe of the cells that are sampled and of the predictors.
 pub mod Slots
 pub mod Sampled
 pub mod Predictors

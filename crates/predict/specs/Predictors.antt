@@ -10,9 +10,9 @@ use Rattle.motion.specs.declared.range.MvRange.{MvRange}
 use Rattle.motion.specs.Vector.{zeroV, shrV, fullpelV}
 use Rattle.motion.specs.Level.{levelOf}
 use Rattle.motion.specs.Block.{blockOf}
+use Rattle.grid.specs.Grid.{Grid, statsAt}
 use Rattle.predict.specs.declared.predictors.Subset.{Subset}
 use Rattle.predict.specs.declared.predictors.MotionEstimationSubsets.{MotionEstimationSubsets}
-use Rattle.predict.specs.Grid.{Grid, statsAt}
 use Rattle.predict.specs.Slots.{slotted}
 use Rattle.predict.specs.Sampled.{cellsB, cellsC, cellsCentre}
 

@@ -6,7 +6,7 @@ use lib.Dec.{ltb, eqb}
 use Rattle.motion.specs.Limits.{cellSide, superblockSide}
 use Rattle.motion.specs.Level.{levelOf}
 use Rattle.motion.specs.Block.{croppedTo}
-use Rattle.predict.specs.Grid.{cellAt}
+use Rattle.grid.specs.Grid.{cellAt}
 
 -- block width or height in cells, cropped at the frame edge
 unfoldable pub cellsAlong : ℕ → ℕ → ℕ → ℕ

@@ -1,4 +1,3 @@
-// The cells of a grid, and the predictors that a block takes from them.
-pub mod grid;
+// The cells of a grid that a block samples, and the predictors that it takes from them.
 pub mod predictors;
 pub mod sampled;

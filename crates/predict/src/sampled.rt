@@ -1,4 +1,4 @@
-use crate::grid::cell_at;
+use grid::cells::cell_at;
 use motion::block::cropped;
 use motion::level::level_of;
 ghost use mathlib.Core.Path.{_≡_};

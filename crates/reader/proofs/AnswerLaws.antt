@@ -6,10 +6,10 @@ use Prim.Native.Nat.{ℕ, zero, suc, _*_, _≤_, _<_}
 use native.Mathlib.Omega.{arith}
 use borrow.Author.Tests.{eq-eqb, ne-eqb, lt-ltb, le-leb, lt-leb}
 use lib.Dec.{leb, ltb, eqb}
-use Rattle.predict.specs.Grid.{Grid}
+use Rattle.grid.specs.Grid.{Grid, room}
 use Rattle.refusal.specs.Tests.{refuse}
 use Rattle.refusal.proofs.RefusalLaws.{then-later}
-use Rattle.gridfile.specs.Reading.{State, refusedAt, taken, kept, room, whole, ended}
+use Rattle.gridfile.specs.Reading.{State, refusedAt, taken, kept, whole, ended}
 use Rattle.reader.specs.declared.reader.Reader.{Reader}
 use Rattle.reader.specs.Held.{plain, readerOf, stateOf, Settled}
 use Rattle.reader.specs.Calls.{Fits, tooShort, takenFrom, keptFrom, endedFrom, takeReader, takeGrid, endReader}

@@ -8,7 +8,7 @@ use native.Mathlib.Omega.{arith}
 use borrow.Author.Tests.{lt-ltb, le-ltb, eq-eqb, ne-eqb}
 use lib.ListN.{length, getD, take, set, replicate, length-append, List·getD-append}
 use lib.Seq.{set-at, append-snoc, getD-take, getD-at}
-use Rattle.gridfile.specs.Records.{headerBytes, cellBytes}
+use Rattle.records.specs.Records.{headerBytes, cellBytes}
 use Rattle.gridfile.specs.Reading.{State, begun, refusedAt, marked, headerDone, headerEnd, cellDone, recordByte, next}
 use Rattle.gridfile.proofs.TakenLaws.{byte-wrong, byte-more, byte-last}
 use Rattle.reader.specs.declared.reader.Reader.{Reader}

@@ -9,10 +9,10 @@ use native.Mathlib.Omega.{arith}
 use borrow.Author.Tests.{leb-true, leb-false, eqb-true, eqb-false, eq-eqb, ne-eqb, not-true, not-false}
 use lib.Dec.{eqb}
 use Rattle.motion.proofs.TestLaws.{tested, both, not-so}
-use Rattle.predict.specs.Grid.{Grid}
+use Rattle.grid.specs.Grid.{Grid, room}
 use Rattle.refusal.proofs.RefusalLaws.{first-passed, passes, then-first, none-of}
-use Rattle.gridfile.specs.Reading.{State, refusedAt, begun, headerEnd, headerDone, cellDone, next, taken, kept, room, ended}
-use Rattle.gridfile.specs.Keeps.{OfBytes}
+use Rattle.records.specs.Numbers.{OfBytes}
+use Rattle.gridfile.specs.Reading.{State, refusedAt, begun, headerEnd, headerDone, cellDone, next, taken, kept, ended}
 use Rattle.gridfile.proofs.TakenLaws.{taken-append, kept-append, refused-stays, refused-keeps}
 use Rattle.gridfile.proofs.KeptLaws.{same-room, kept-lengths}
 use Rattle.reader.specs.Calls.{Fits, tooShort, takenFrom, keptFrom, endedFrom}

@@ -10,11 +10,11 @@ use borrow.Author.Tests.{lt-ltb, le-ltb}
 use lib.Dec.{ltb}
 use lib.ListN.{length, drop, length-append, length-drop, drop-of-length-le}
 use lib.Seq.{slice, take-all, take-append-le, drop-append-le}
-use Rattle.predict.specs.declared.grid.MEStats.{MEStats}
-use Rattle.predict.specs.Grid.{Grid, statsAt, withCell}
-use Rattle.gridfile.specs.Records.{headerBytes, cellBytes, cellOf, fileBytes}
-use Rattle.gridfile.specs.Reading.{State, start, refusedAt, begun, headerEnd, headerDone, cellDone, next, taken, keep, kept, room}
-use Rattle.gridfile.specs.Keeps.{OfBytes}
+use Rattle.grid.specs.declared.cells.MEStats.{MEStats}
+use Rattle.grid.specs.Grid.{Grid, statsAt, withCell, room}
+use Rattle.records.specs.Records.{headerBytes, cellBytes, cellOf, fileBytes}
+use Rattle.records.specs.Numbers.{OfBytes}
+use Rattle.gridfile.specs.Reading.{State, start, refusedAt, begun, headerEnd, headerDone, cellDone, next, taken, keep, kept}
 use Rattle.gridfile.proofs.PlaceLaws.{next-place}
 use Rattle.gridfile.proofs.KeptLaws.{same-room, cell-here, cell-other, kept-lengths}
 use Rattle.reader.specs.Calls.{Fits}

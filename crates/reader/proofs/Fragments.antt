@@ -3,10 +3,10 @@ use mathlib.Core.Path.{_≡_, refl, sym, ap, subst₂, _∙_}
 use mathlib.Core.List.{List, [], _∷_, _++_, append-nil}
 use Prim.Native.Nat.{ℕ}
 use native.Mathlib.Omega.{arith}
-use Rattle.predict.specs.Grid.{Grid}
-use Rattle.gridfile.specs.Reading.{State, start, taken, kept, room, readRefusal, shapeOf, readAnswer}
-use Rattle.gridfile.specs.Keeps.{OfBytes}
-use Rattle.gridfile.proofs.RecordLaws.{bytes-front, bytes-back}
+use Rattle.grid.specs.Grid.{Grid, room}
+use Rattle.records.specs.Numbers.{OfBytes}
+use Rattle.records.proofs.NumberLaws.{bytes-front, bytes-back}
+use Rattle.gridfile.specs.Reading.{State, start, taken, kept, readRefusal, shapeOf, readAnswer}
 use Rattle.gridfile.proofs.KeptLaws.{kept-past}
 use Rattle.gridfile.proofs.FileLaws.{read-grid}
 use Rattle.reader.specs.declared.reader.Reader.{Reader}

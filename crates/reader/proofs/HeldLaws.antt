@@ -12,10 +12,10 @@ use lib.Dec.{leb, ltb, eqb}
 use lib.ListN.{length, getD, take, drop, length-take, length-append, take-append-drop}
 use lib.Seq.{take-at}
 use Rattle.motion.proofs.TestLaws.{tested, both}
-use Rattle.gridfile.specs.Records.{headerBytes, cellBytes}
+use Rattle.records.specs.Records.{headerBytes, cellBytes}
+use Rattle.records.specs.Numbers.{OfBytes}
+use Rattle.records.proofs.NumberLaws.{bytes-front}
 use Rattle.gridfile.specs.Reading.{State, start, refusedAt, begun, marked, headerEnd, headerDone, cellDone, recordByte, next, taken}
-use Rattle.gridfile.specs.Keeps.{OfBytes}
-use Rattle.gridfile.proofs.RecordLaws.{bytes-front}
 use Rattle.reader.specs.declared.reader.Reader.{Reader}
 use Rattle.reader.specs.Held.{mostCells, readerOf, recordBytes, shaped, stateOf}
 

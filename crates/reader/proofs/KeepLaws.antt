@@ -6,8 +6,8 @@ use native.Mathlib.Omega.{arith}
 use borrow.Author.Tests.{lt-ltb, le-ltb}
 use lib.ListN.{length, take, set}
 use lib.Seq.{slice, take-suc-set}
-use Rattle.predict.specs.Grid.{Grid, withCell}
-use Rattle.gridfile.specs.Records.{cellBytes, cellOf}
+use Rattle.grid.specs.Grid.{Grid, withCell}
+use Rattle.records.specs.Records.{cellBytes, cellOf}
 use Rattle.gridfile.specs.Reading.{State, refusedAt, begun, headerDone, headerEnd, cellDone, next, keep}
 use Rattle.gridfile.proofs.TakenLaws.{past-mark, byte-last}
 use Rattle.reader.specs.declared.reader.Reader.{Reader}

@@ -6,10 +6,10 @@ use native.Mathlib.Numerals.{add-one}
 use native.Mathlib.Omega.{arith}
 use lib.ListN.{length, getD, take, drop, length-drop, take-append-drop}
 use lib.Seq.{take-suc, take-length, take-all}
-use Rattle.predict.specs.Grid.{Grid}
-use Rattle.gridfile.specs.Reading.{State, next, taken, keep, kept, room}
-use Rattle.gridfile.specs.Keeps.{OfBytes}
-use Rattle.gridfile.proofs.RecordLaws.{bytes-front}
+use Rattle.grid.specs.Grid.{Grid, room}
+use Rattle.records.specs.Numbers.{OfBytes}
+use Rattle.records.proofs.NumberLaws.{bytes-front}
+use Rattle.gridfile.specs.Reading.{State, next, taken, keep, kept}
 use Rattle.gridfile.proofs.TakenLaws.{taken-append, kept-append, refused-stays, refused-keeps}
 use Rattle.gridfile.proofs.KeptLaws.{SameLengths, kept-lengths, same-room}
 use Rattle.reader.specs.declared.reader.Reader.{Reader}

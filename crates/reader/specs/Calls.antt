@@ -4,8 +4,8 @@ use Prim.Native.Nat.{ℕ, _*_, _≤_, _<_}
 use mathlib.Core.Bool.{Bool, not, _&&_, cond}
 use mathlib.Core.List.{List}
 use lib.Dec.{leb, eqb}
-use Rattle.predict.specs.Grid.{Grid}
-use Rattle.gridfile.specs.Reading.{State, start, refusedAt, taken, kept, room, ended}
+use Rattle.grid.specs.Grid.{Grid, room}
+use Rattle.gridfile.specs.Reading.{State, start, refusedAt, taken, kept, ended}
 use Rattle.reader.specs.declared.reader.Reader.{Reader}
 use Rattle.reader.specs.Held.{readerOf, stateOf}
 

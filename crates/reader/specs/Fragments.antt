@@ -4,10 +4,10 @@ use mathlib.Core.List.{List, [], _∷_, _++_}
 use Prim.Native.Nat.{ℕ, suc, _≤_, _<_}
 use lib.ListN.{length}
 use lib.Seq.{slice}
-use Rattle.predict.specs.Grid.{Grid, statsAt}
-use Rattle.gridfile.specs.Records.{cellOf, fileBytes}
-use Rattle.gridfile.specs.Keeps.{OfBytes}
-use Rattle.gridfile.specs.Reading.{room, readRefusal, readAnswer, readGrid}
+use Rattle.grid.specs.Grid.{Grid, statsAt, room}
+use Rattle.records.specs.Records.{cellOf, fileBytes}
+use Rattle.records.specs.Numbers.{OfBytes}
+use Rattle.gridfile.specs.Reading.{readRefusal, readAnswer, readGrid}
 use Rattle.reader.specs.declared.reader.Reader.{Reader}
 use Rattle.reader.specs.Calls.{newReader, takeReader, takeGrid, endReader}
 

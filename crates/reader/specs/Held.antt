@@ -5,7 +5,7 @@ use mathlib.Core.Bool.{Bool, _&&_, cond}
 use mathlib.Core.List.{_++_, []}
 use lib.Dec.{leb, eqb}
 use lib.ListN.{length, take, replicate}
-use Rattle.gridfile.specs.Records.{headerBytes, cellBytes}
+use Rattle.records.specs.Records.{headerBytes, cellBytes}
 use Rattle.gridfile.specs.Reading.{State, begun, refusedAt}
 use Rattle.reader.specs.declared.reader.Reader.{Reader}
 

@@ -3,9 +3,9 @@ use crate::reader::Reader;
 use crate::reader::between;
 use crate::reader::count_of;
 use crate::reader::settled;
-use gridfile::read::least;
+use grid::cells::room;
 ghost use mathlib.Core.Path.{_≡_};
-ghost use Rattle.predict.specs.Grid.{gridOf};
+ghost use Rattle.grid.specs.Grid.{gridOf};
 ghost use Rattle.reader.specs.Calls.{newReader, takeReader, takeGrid, endReader};
 
 #[no_mangle]
@@ -30,7 +30,7 @@ pub extern "C" fn lockdapple_reader_take(
     if first.code != 0 {
         return first;
     }
-    let space = least(rows.len(), least(cols.len(), sads.len()));
+    let space = room(rows.len(), cols.len(), sads.len());
     if space < count_of(first) {
         return between(13, first.columns, first.rows, first.cells);
     }

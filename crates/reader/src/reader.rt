@@ -1,11 +1,11 @@
-use gridfile::read::least;
+use grid::cells::least;
 ghost use mathlib.Core.Path.{_≡_};
 ghost use mathlib.Core.Bool.{_&&_};
 ghost use mathlib.Core.List.{_++_};
 ghost use Prim.Native.Nat.{_*_, _-_, _%_, _≤_};
 ghost use lib.Dec.{eqb, ltb};
 ghost use lib.ListN.{take, replicate};
-ghost use Rattle.gridfile.specs.Records.{cellBytes};
+ghost use Rattle.records.specs.Records.{cellBytes};
 ghost use Rattle.reader.specs.Held.{mostCells, plain, partBytes, readerOf, recordBytes, stateOf};
 
 // The state between two calls: the refusal so far, what the header said, how many cells were taken in, and the bytes of the

@@ -5,8 +5,8 @@ use Prim.Native.Nat.{ℕ}
 use native.Mathlib.Omega.{arith}
 use lib.Dec.{eqb}
 use Rattle.motion.proofs.TestLaws.{both}
-use Rattle.predict.specs.Grid.{Grid, Held}
-use Rattle.predict.specs.Previous.{HeldIf, previous}
+use Rattle.grid.specs.Grid.{Grid, Held}
+use Rattle.grid.specs.Previous.{HeldIf, previous}
 use Rattle.refusal.specs.Tests.{gridHolds, gridsHold}
 use Rattle.refusal.proofs.RefusalLaws.{held}
 

@@ -13,7 +13,7 @@ use Rattle.motion.specs.Frame.{Side, Starts, Sized, Placed, own4, own3, own2, r
 use Rattle.motion.specs.Block.{planeOf}
 use Rattle.motion.proofs.TestLaws.{both, either}
 use Rattle.motion.proofs.LevelLaws.{each-level}
-use Rattle.predict.specs.Grid.{Grid, Held, cells}
+use Rattle.grid.specs.Grid.{Grid, Held, cells}
 use Rattle.refusal.specs.Tests.{refuse, _then_, sideOk, levelOk, sizeOf, startOk, planeOk, blockRefusal, planesRefusal, gridOk, gridHolds}
 
 -- no number at all: the first test passed, and no later one refused

@@ -6,7 +6,7 @@ use lib.ListN.{length}
 use Rattle.motion.specs.Limits.{sideStep, largestSide, cellSide}
 use Rattle.motion.specs.Level.{levelOf}
 use Rattle.motion.specs.Block.{planeOf}
-use Rattle.predict.specs.Grid.{Grid, cells}
+use Rattle.grid.specs.Grid.{Grid, cells}
 
 -- a test that refuses with a number where it does not pass
 unfoldable pub refuse : ℕ → Bool → ℕ

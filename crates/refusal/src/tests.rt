@@ -3,9 +3,9 @@ use motion::level::level_of;
 ghost use mathlib.Core.Path.{_≡_};
 ghost use Prim.Native.Nat.{_≤_};
 ghost use lib.ListN.{length};
-ghost use Rattle.refusal.specs.Tests.{sideOk, levelOk, sizeOf, startOk, planeOk, blockRefusal, planesRefusal, callRefusal, gridOk, gridsHold};
 ghost use Rattle.motion.specs.Limits.{largestSide};
-ghost use Rattle.predict.specs.Grid.{gridOf};
+ghost use Rattle.grid.specs.Grid.{gridOf};
+ghost use Rattle.refusal.specs.Tests.{sideOk, levelOk, sizeOf, startOk, planeOk, blockRefusal, planesRefusal, callRefusal, gridOk, gridsHold};
 
 const LARGEST_SIDE: usize = 1024;
 

@@ -4,7 +4,7 @@ use mathlib.Core.Bool.{true, false}
 use mathlib.Core.List.{List, [], _∷_, append-nil}
 use Prim.Native.Nat.{ℕ, _+_}
 use native.Mathlib.Omega.{arith}
-use Rattle.predict.specs.Grid.{Grid, statsAt}
+use Rattle.grid.specs.Grid.{Grid, statsAt}
 use Rattle.compare.specs.Differ.{differsAt, differing}
 use Rattle.compare.proofs.DifferLaws.{none-left, differs-here, same-here}
 use Rattle.compare.proofs.Places.{in-blocks}

@@ -2,7 +2,7 @@
 use mathlib.Core.Path.{_≡_}
 use mathlib.Core.List.{_++_}
 use Prim.Native.Nat.{ℕ, _≤_}
-use Rattle.predict.specs.Grid.{Grid}
+use Rattle.grid.specs.Grid.{Grid}
 use Rattle.compare.specs.Differ.{differing}
 use Rattle.report.specs.Lines.{linesOf}
 

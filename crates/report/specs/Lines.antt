@@ -3,8 +3,8 @@ use Prim.Native.Nat.{ℕ, _/_, _%_}
 use Prim.Native.Char.{code}
 use mathlib.Core.List.{List, [], _∷_, _++_}
 use lib.ListN.{length}
-use Rattle.predict.specs.declared.grid.MEStats.{MEStats}
-use Rattle.predict.specs.Grid.{Grid, statsAt}
+use Rattle.grid.specs.declared.cells.MEStats.{MEStats}
+use Rattle.grid.specs.Grid.{Grid, statsAt}
 use Rattle.compare.specs.Differ.{differing}
 use Rattle.text.specs.Ascii.{ascii}
 use Rattle.text.specs.Decimal.{decimal, signed}

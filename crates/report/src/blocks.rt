@@ -1,9 +1,9 @@
 use crate::lines::put_cell_line;
 use compare::cells::differs_at;
-use predict::grid::stats_at;
+use grid::cells::stats_at;
 ghost use Prim.Native.Nat.{_+_, _-_, _*_, _≤_, _<_};
 ghost use lib.ListN.{length};
-ghost use Rattle.predict.specs.Grid.{gridOf};
+ghost use Rattle.grid.specs.Grid.{gridOf};
 ghost use Rattle.compare.specs.Differ.{differing};
 ghost use Rattle.text.specs.Put.{Put};
 ghost use Rattle.report.specs.Lines.{lineRoom, linesOf};

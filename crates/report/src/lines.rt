@@ -1,4 +1,4 @@
-use predict::grid::MEStats;
+use grid::cells::MEStats;
 use text::number::put_decimal;
 use text::number::put_signed;
 use text::words::put_byte;

@@ -4,9 +4,9 @@ use mathlib.Core.Bool.{cond}
 use mathlib.Core.List.{[]}
 use lib.Dec.{eqb}
 use Rattle.motion.specs.Vector.{zeroV}
+use Rattle.grid.specs.Grid.{Grid}
+use Rattle.grid.specs.Previous.{previous}
 use Rattle.predict.specs.declared.predictors.MotionEstimationSubsets.{MotionEstimationSubsets}
-use Rattle.predict.specs.Grid.{Grid}
-use Rattle.predict.specs.Previous.{previous}
 use Rattle.predict.specs.Slots.{slotted}
 use Rattle.predict.specs.Predictors.{subsetsOf}
 use Rattle.refusal.specs.Tests.{refuse, _then_, blockRefusal, gridsHold}

@@ -9,7 +9,7 @@ use Rattle.motion.specs.Level.{levelOf}
 use Rattle.sad.specs.Cost.{rdAt}
 use Rattle.points.specs.Window.{refineWindow, windowOk}
 use Rattle.search.specs.Full.{refine}
-use Rattle.predict.specs.Grid.{cellAt, storedAt}
+use Rattle.grid.specs.Grid.{cellAt, storedAt}
 use Rattle.refusal.specs.Tests.{refuse, _then_, callRefusal, gridOk}
 use Rattle.single.specs.declared.found.Found.{Found}
 use Rattle.single.specs.Found.{foundOf, answer}

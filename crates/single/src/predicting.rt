@@ -3,7 +3,7 @@ use predict::predictors::get_subset_predictors;
 use refusal::tests::block_refusal;
 use refusal::tests::grids_hold;
 ghost use mathlib.Core.Path.{_≡_};
-ghost use Rattle.predict.specs.Grid.{gridOf};
+ghost use Rattle.grid.specs.Grid.{gridOf};
 ghost use Rattle.single.specs.Predicting.{refusedPredictors, predictorsAnswer};
 
 // A number of document 01, and the predictors of a block.

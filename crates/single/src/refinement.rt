@@ -1,11 +1,11 @@
 use crate::call::block_at;
 use crate::found::Found;
+use grid::cells::cell_at;
+use grid::cells::stored_at;
 use motion::block::Block;
 use motion::level::level_of;
 use motion::vector::MotionVector;
 use points::window::refine_window;
-use predict::grid::cell_at;
-use predict::grid::stored_at;
 use refusal::tests::call_refusal;
 use refusal::tests::grid_ok;
 use search::full::full_search;

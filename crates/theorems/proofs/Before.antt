@@ -15,23 +15,23 @@ use Rattle.motion.specs.Level.{levelOf}
 use Rattle.motion.specs.Block.{croppedTo}
 use Rattle.motion.specs.Superblock.{superblocksAlong, superblocks, superblockX, superblockY}
 use Rattle.motion.specs.Every.{allBelow}
-use Rattle.predict.specs.Grid.{Grid, Held, cells, cellAt, statsAt}
+use Rattle.grid.specs.Grid.{Grid, Held, cells, cellAt, statsAt}
+use Rattle.grid.specs.Previous.{Previous}
+use Rattle.grid.specs.Save.{saveBlock}
+use Rattle.grid.proofs.CellLaws.{cell-inside}
+use Rattle.grid.proofs.SaveLaws.{true-up-to, covers-at}
 use Rattle.predict.specs.Sampled.{cellsAlong, taken, neighbours, oddBlock, cellsB, cellsCentre}
-use Rattle.predict.proofs.InsideLaws.{cell-inside}
-use Rattle.predict.specs.Previous.{Previous}
 use Rattle.estimate.specs.Inputs.{three, two, inputsOf}
-use Rattle.estimate.specs.Save.{saveBlock}
 use Rattle.estimate.specs.Block.{estimateMotion}
-use Rattle.estimate.proofs.SaveLaws.{true-up-to, covers-at}
 use Rattle.frame.specs.Step.{blocksAlong, blockCount, blockX, blockY, worked, refinedCount, windowsOk, refinements, estimates, step}
 use Rattle.frame.specs.Run.{Planes, planeAt, levelRun, inputsAt, frameRun}
 use Rattle.frame.proofs.GeometryLaws.{column-begins, row-begins}
 use Rattle.frame.proofs.StepLaws.{held-step}
+use Rattle.frame.proofs.RunLaws.{run-last}
 use Rattle.order.specs.List.{raster}
 use Rattle.order.proofs.EdgeLaws.{some-of}
 use Rattle.order.proofs.Accepted.{raster-accepted}
 use Rattle.theorems.specs.Cells.{ownCell, AgreeOn}
-use Rattle.frame.proofs.RunLaws.{run-last}
 use Rattle.theorems.specs.Order.{WhateverBefore}
 use Rattle.theorems.proofs.CellLaws.{own-of}
 use Rattle.theorems.proofs.OrderLaws.{order}

@@ -11,9 +11,9 @@ use Rattle.motion.specs.Limits.{cellSide, superblockSide}
 use Rattle.motion.specs.Frame.{Side}
 use Rattle.motion.specs.Superblock.{superblocksAlong, superblocks, superblockX, superblockY}
 use Rattle.motion.proofs.TestLaws.{both}
-use Rattle.predict.specs.Grid.{cells}
-use Rattle.estimate.specs.Save.{upTo, covers}
-use Rattle.estimate.proofs.SaveLaws.{up-to-true, true-up-to}
+use Rattle.grid.specs.Grid.{cells}
+use Rattle.grid.specs.Save.{upTo, covers}
+use Rattle.grid.proofs.SaveLaws.{up-to-true, true-up-to}
 use Rattle.frame.specs.Step.{blocksAlong, blockCount, blockX, blockY}
 use Rattle.frame.proofs.GeometryLaws.{Tabled, sixteen, thirty-two, sixty-four, across-some}
 use Rattle.theorems.specs.Cells.{ownCell}

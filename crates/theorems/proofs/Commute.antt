@@ -8,9 +8,9 @@ use lib.Seq.{ext-getD}
 use Rattle.motion.specs.Frame.{Side}
 use Rattle.motion.specs.Superblock.{superblocksAlong, superblocks}
 use Rattle.motion.proofs.TestLaws.{tested, not-so}
-use Rattle.predict.specs.declared.grid.MEStats.{MEStats}
-use Rattle.predict.specs.Grid.{Grid, storedAt, statsAt}
-use Rattle.predict.specs.Previous.{Previous}
+use Rattle.grid.specs.declared.cells.MEStats.{MEStats}
+use Rattle.grid.specs.Grid.{Grid, storedAt, statsAt}
+use Rattle.grid.specs.Previous.{Previous}
 use Rattle.estimate.specs.Inputs.{Inputs}
 use Rattle.frame.specs.Step.{step}
 use Rattle.frame.proofs.StepLaws.{AsLong, long-more, step-long}

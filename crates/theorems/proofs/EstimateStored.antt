@@ -17,17 +17,17 @@ use Rattle.motion.specs.Range.{inRange}
 use Rattle.motion.specs.Block.{blockOf}
 use Rattle.motion.specs.Superblock.{superblocks, superblockX, superblockY}
 use Rattle.sad.proofs.Sums.{Under}
-use Rattle.predict.specs.declared.grid.MEStats.{MEStats}
-use Rattle.predict.specs.Grid.{Grid, Held, cellAt, statsAt}
+use Rattle.grid.specs.declared.cells.MEStats.{MEStats}
+use Rattle.grid.specs.Grid.{Grid, Held, cellAt, statsAt}
+use Rattle.grid.specs.Previous.{Previous}
+use Rattle.grid.specs.Save.{upTo, covers, saveBlock}
+use Rattle.grid.proofs.CellLaws.{cell-inside}
+use Rattle.grid.proofs.SaveLaws.{true-up-to, covers-at, read-outside, read-inside}
 use Rattle.predict.specs.Predictors.{subsetsOf}
-use Rattle.predict.proofs.InsideLaws.{cell-inside}
 use Rattle.predict.proofs.SubsetLaws.{subsets-sound}
-use Rattle.predict.specs.Previous.{Previous}
 use Rattle.estimate.specs.Inputs.{Inputs, Ready}
-use Rattle.estimate.specs.Save.{upTo, covers, saveBlock}
 use Rattle.estimate.specs.Block.{blockIn, costIn, fullPixelMe, statsOf, estimateMotion}
 use Rattle.estimate.proofs.BlockFacts.{own-sized, block-lies, block-zero, fullPixelMe-settled}
-use Rattle.estimate.proofs.SaveLaws.{true-up-to, covers-at, read-outside, read-inside}
 use Rattle.frame.specs.Step.{blocksAlong, blockCount, blockX, blockY, worked, estimates}
 use Rattle.frame.proofs.GeometryLaws.{Tabled, sixteen, thirty-two, sixty-four, own-tabled, across-some, placed}
 use Rattle.frame.proofs.StepLaws.{held-worked}

@@ -13,14 +13,15 @@ use Rattle.motion.specs.Superblock.{superblocks}
 use Rattle.motion.proofs.TestLaws.{tested}
 use Rattle.motion.proofs.EveryLaws.{below-same}
 use Rattle.points.specs.Window.{windowOk}
-use Rattle.predict.specs.declared.grid.MEStats.{MEStats}
-use Rattle.predict.specs.Grid.{Grid, Held, cells, cellAt, statsAt}
-use Rattle.predict.proofs.InsideLaws.{cell-inside, b-inside, centre-inside}
-use Rattle.predict.specs.Previous.{Previous}
+use Rattle.grid.specs.declared.cells.MEStats.{MEStats}
+use Rattle.grid.specs.Grid.{Grid, Held, cells, cellAt, statsAt}
+use Rattle.grid.specs.Previous.{Previous}
+use Rattle.grid.specs.Save.{covers, saveBlock}
+use Rattle.grid.proofs.CellLaws.{cell-inside}
+use Rattle.grid.proofs.SaveLaws.{held-block, block-inside, block-outside}
+use Rattle.predict.proofs.InsideLaws.{b-inside, centre-inside}
 use Rattle.estimate.specs.Inputs.{Inputs, Leveled}
-use Rattle.estimate.specs.Save.{covers, saveBlock}
 use Rattle.estimate.specs.Block.{estimateMotion, refineMotion}
-use Rattle.estimate.proofs.SaveLaws.{held-block, block-inside, block-outside}
 use Rattle.estimate.proofs.BlockFacts.{own-sized}
 use Rattle.frame.specs.Step.{blockCount, blockX, blockY, worked, refinedCount, windowsOk, refinements, estimates, step}
 use Rattle.frame.specs.Run.{levelRun}

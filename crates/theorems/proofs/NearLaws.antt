@@ -14,9 +14,10 @@ use Rattle.motion.specs.Frame.{Side, Starts, own4, own3, own2}
 use Rattle.motion.specs.Block.{croppedTo}
 use Rattle.motion.specs.Superblock.{superblocksAlong, superblocks, superblockX, superblockY}
 use Rattle.motion.proofs.TestLaws.{both}
-use Rattle.predict.specs.Grid.{cellAt}
+use Rattle.grid.specs.Grid.{cellAt}
+use Rattle.grid.proofs.CellLaws.{cell-inside}
 use Rattle.predict.specs.Sampled.{cellsAlong, taken, neighbours, centreCell, cellsB, cellsCentre}
-use Rattle.predict.proofs.InsideLaws.{cell-inside, middle-inside}
+use Rattle.predict.proofs.InsideLaws.{middle-inside}
 use Rattle.frame.specs.Step.{blockCount, blockX, blockY}
 use Rattle.frame.proofs.GeometryLaws.{Tabled, sixteen, thirty-two, sixty-four, own-tabled, placed}
 use Rattle.order.specs.List.{sharesEdge}

@@ -5,15 +5,15 @@ use mathlib.Core.Bool.{Bool, true}
 use mathlib.Core.List.{List}
 use Prim.Native.Nat.{ℕ, zero, suc}
 use native.Mathlib.Omega.{arith}
-use Rattle.predict.specs.Grid.{Grid}
 use Rattle.motion.specs.Superblock.{superblocksAlong}
-use Rattle.predict.specs.Previous.{previous}
+use Rattle.grid.specs.Grid.{Grid}
+use Rattle.grid.specs.Previous.{previous}
+use Rattle.refusal.specs.Tests.{refuse, _then_}
+use Rattle.refusal.proofs.RefusalLaws.{none-of}
 use Rattle.estimate.specs.Inputs.{four, three}
 use Rattle.frame.specs.Step.{windowsOk}
 use Rattle.frame.specs.Run.{inputsAt}
 use Rattle.order.specs.List.{listRefusal}
-use Rattle.refusal.specs.Tests.{refuse, _then_}
-use Rattle.refusal.proofs.RefusalLaws.{none-of}
 use Rattle.inter.specs.Steps.{stepTests, stepRefusal}
 use Rattle.inter.specs.Runs.{runTests, runRefusal}
 use Rattle.inter.proofs.ReadyLaws.{run-ready}

@@ -5,8 +5,8 @@ use mathlib.Core.List.{List, [], _∷_}
 use Prim.Native.Nat.{ℕ, _<_}
 use Rattle.motion.specs.Frame.{Side}
 use Rattle.motion.specs.Superblock.{superblocksAlong, superblocks}
-use Rattle.predict.specs.Grid.{Grid}
-use Rattle.predict.specs.Previous.{Previous}
+use Rattle.grid.specs.Grid.{Grid}
+use Rattle.grid.specs.Previous.{Previous}
 use Rattle.estimate.specs.Inputs.{Inputs}
 use Rattle.frame.specs.Step.{step}
 use Rattle.frame.specs.Run.{levelRun, inputsAt, frameRun}

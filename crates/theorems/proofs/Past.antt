@@ -8,12 +8,12 @@ use native.Mathlib.Omega.{arith}
 use borrow.Author.Tests.{le-ltb}
 use Rattle.motion.specs.Limits.{cellSide}
 use Rattle.motion.specs.Frame.{Side}
-use Rattle.predict.specs.declared.grid.MEStats.{MEStats}
-use Rattle.predict.specs.Grid.{Grid, cells, statsAt}
-use Rattle.predict.specs.Previous.{Previous}
+use Rattle.grid.specs.declared.cells.MEStats.{MEStats}
+use Rattle.grid.specs.Grid.{Grid, cells, statsAt}
+use Rattle.grid.specs.Previous.{Previous}
+use Rattle.grid.specs.Save.{upTo, covers}
+use Rattle.grid.proofs.SaveLaws.{block-outside}
 use Rattle.estimate.specs.Inputs.{Inputs}
-use Rattle.estimate.specs.Save.{upTo, covers}
-use Rattle.estimate.proofs.SaveLaws.{block-outside}
 use Rattle.frame.specs.Step.{blockX, blockY, worked, windowsOk, refinements, estimates, step}
 use Rattle.frame.specs.Run.{levelRun, inputsAt, frameRun}
 use Rattle.theorems.specs.Order.{PastStays}

@@ -10,16 +10,16 @@ use lib.Dec.{eqb}
 use lib.ListN.{length, getD, length-append}
 use lib.Seq.{getD-append-seam}
 use Rattle.motion.specs.Superblock.{superblocksAlong, superblocks}
-use Rattle.predict.specs.Grid.{Grid}
-use Rattle.predict.specs.Previous.{previous}
+use Rattle.grid.specs.Grid.{Grid}
+use Rattle.grid.specs.Previous.{previous}
+use Rattle.refusal.specs.Tests.{refuse, _then_, sideOk, levelOk, planesRefusal, gridOk, gridHolds, gridsHold}
+use Rattle.refusal.proofs.RefusalLaws.{first-passed, passes, none-of}
 use Rattle.estimate.specs.Inputs.{Inputs}
 use Rattle.frame.specs.Step.{windowsOk, step}
 use Rattle.frame.specs.Run.{Planes, planeAt, inputsAt, levelRun, frameRun}
 use Rattle.frame.proofs.StepLaws.{AsLong, long-more, step-long}
 use Rattle.frame.proofs.RunLaws.{run-long}
 use Rattle.order.specs.List.{listRefusal}
-use Rattle.refusal.specs.Tests.{refuse, _then_, sideOk, levelOk, planesRefusal, gridOk, gridHolds, gridsHold}
-use Rattle.refusal.proofs.RefusalLaws.{first-passed, passes, none-of}
 use Rattle.inter.specs.Steps.{stepTests, stepRefusal, stepGrid}
 use Rattle.inter.specs.Runs.{lentRefusal, runTests, runRefusal, runGrid}
 use Rattle.inter.proofs.ReadyLaws.{list-inside}

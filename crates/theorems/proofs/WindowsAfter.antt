@@ -12,9 +12,9 @@ use Rattle.motion.specs.Block.{blockOf}
 use Rattle.motion.specs.Superblock.{superblocks}
 use Rattle.motion.proofs.EveryLaws.{below-of}
 use Rattle.points.specs.Window.{refineWindow, windowOk}
-use Rattle.predict.specs.declared.grid.MEStats.{MEStats}
-use Rattle.predict.specs.Grid.{Grid, Held, cellAt, statsAt}
-use Rattle.predict.specs.Previous.{Previous}
+use Rattle.grid.specs.declared.cells.MEStats.{MEStats}
+use Rattle.grid.specs.Grid.{Grid, Held, cellAt, statsAt}
+use Rattle.grid.specs.Previous.{Previous}
 use Rattle.estimate.specs.Inputs.{inputsOf}
 use Rattle.estimate.specs.Block.{firstStored, windowAt}
 use Rattle.frame.specs.Step.{blockCount, blockX, blockY, refinedCount, windowsOk, estimates}

@@ -11,11 +11,11 @@ use Rattle.motion.specs.Limits.{cellSide, superblockSide}
 use Rattle.motion.specs.Frame.{Side}
 use Rattle.motion.specs.Superblock.{superblocksAlong, superblocks, superblockX, superblockY}
 use Rattle.motion.proofs.TestLaws.{both, not-so}
-use Rattle.predict.specs.Grid.{Grid, Held, cellAt, statsAt}
-use Rattle.predict.specs.Previous.{Previous}
+use Rattle.grid.specs.Grid.{Grid, Held, cellAt, statsAt}
+use Rattle.grid.specs.Previous.{Previous}
+use Rattle.grid.specs.Save.{upTo}
+use Rattle.grid.proofs.SaveLaws.{up-to-true, covers-at}
 use Rattle.estimate.specs.Inputs.{Inputs, inputsOf}
-use Rattle.estimate.specs.Save.{upTo}
-use Rattle.estimate.proofs.SaveLaws.{up-to-true, covers-at}
 use Rattle.frame.specs.Step.{blocksAlong, blockCount, blockX, blockY, refinements, estimates, step}
 use Rattle.frame.specs.Run.{Planes, planeAt, levelRun, inputsAt}
 use Rattle.frame.proofs.GeometryLaws.{Tabled, sixteen, thirty-two, sixty-four, across-some, placed}

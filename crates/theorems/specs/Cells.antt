@@ -5,8 +5,8 @@ use mathlib.Core.Logic.{_⊎_}
 use Prim.Native.Nat.{ℕ, _<_}
 use Rattle.motion.specs.Limits.{superblockSide}
 use Rattle.motion.specs.Superblock.{superblocksAlong, superblocks, superblockX, superblockY}
-use Rattle.predict.specs.Grid.{Grid, statsAt}
-use Rattle.estimate.specs.Save.{covers}
+use Rattle.grid.specs.Grid.{Grid, statsAt}
+use Rattle.grid.specs.Save.{covers}
 use Rattle.order.specs.List.{sharesEdge}
 
 -- a cell of superblock n, cropped at the frame

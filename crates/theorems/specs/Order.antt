@@ -6,8 +6,8 @@ use Prim.Native.Nat.{ℕ, _≤_, _<_}
 use lib.ListN.{getD}
 use Rattle.motion.specs.Frame.{Side}
 use Rattle.motion.specs.Superblock.{superblocksAlong, superblocks}
-use Rattle.predict.specs.Grid.{Grid, Held, cells, statsAt}
-use Rattle.predict.specs.Previous.{Previous, previous}
+use Rattle.grid.specs.Grid.{Grid, Held, cells, statsAt}
+use Rattle.grid.specs.Previous.{Previous, previous}
 use Rattle.estimate.specs.Inputs.{Inputs}
 use Rattle.frame.specs.Step.{windowsOk}
 use Rattle.frame.specs.Run.{Planes, planeAt, inputsAt, levelRun, frameRun}

@@ -1,13 +1,11 @@
 -- `compare::calls::lockdapple_grids_compare` meets its contract: nothing before the first place is counted. Assumes nothing.
 use borrow.Author.Needs.{needs}
 use borrow.Author.Tests.{ne-eqb}
-use mathlib.Core.Path.{_≡_, sym, ap, ap₂, _∙_}
-use Prim.Native.Nat.{ℕ, _*_, _≤_, min}
+use mathlib.Core.Path.{_≡_, sym, ap₂, _∙_}
+use Prim.Native.Nat.{ℕ, _*_, _≤_}
 use native.Mathlib.Omega.{arith}
-use lib.ListN.{length}
 use denote.Ref.{now}
-use Rattle.predict.specs.Grid.{Grid, gridOf}
-use Rattle.gridfile.specs.Reading.{room}
+use Rattle.grid.specs.Grid.{Grid, gridOf, room}
 use Rattle.compare.specs.Answer.{compareRefusal, comparisonOf, compareAnswer}
 use Rattle.compare.proofs.AnswerLaws.{cells-most, both-hold, counted-answer}
 use Rattle.compare.proofs.calls.lockdapple_grids_compare.Statement.{statement}
@@ -16,7 +14,7 @@ use Rattle.compare.proofs.calls.lockdapple_grids_compare.Tie as tie
 -- the number, of the two grids lent
 module _ (c : tie.After-compare-refusal) where
   abbrev entry : tie.Start
-  entry = c .before .before .before .before .before .before .before
+  entry = c .before .before .before .before .before
 
   abbrev f : Grid
   f = gridOf (now (entry .args .first-rows)) (now (entry .args .first-cols)) (now (entry .args .first-sads))
@@ -27,12 +25,8 @@ module _ (c : tie.After-compare-refusal) where
   number : c .compare-refusal .result ≡ compareRefusal (entry .args .first) (room f) (entry .args .second) (room g)
   unfolding room
   number =
-      let second = c .before in
-      let first = second .before .before in
       c .compare-refusal .ensures
-      ∙ ap₂ (λ (n m : ℕ). compareRefusal (entry .args .first) n (entry .args .second) m)
-      (first .least2 .ensures ∙ ap (min (length (now (entry .args .first-rows)))) (first .before .least .ensures))
-      (second .least4 .ensures ∙ ap (min (length (now (entry .args .second-rows)))) (second .before .least3 .ensures))
+      ∙ ap₂ (λ (n m : ℕ). compareRefusal (entry .args .first) n (entry .args .second) m) (c .before .before .room .ensures) (c .before .room2 .ensures)
 
 -- where there is none, both grids have the cells
 module _ (c : tie.Else1) where
@@ -42,17 +36,11 @@ module _ (c : tie.Else1) where
   hold : (entry (c .before) .args .first .columns * entry (c .before) .args .first .rows ≤ room (f (c .before))) × (entry (c .before) .args .first .columns * entry (c .before) .args .first .rows ≤ room (g (c .before)))
   hold = both-hold _ _ _ _ none
 
-least-requires : tie.Need-least-requires
-least-requires c κs = search needs
+room-requires : tie.Need-room-requires
+room-requires c κs = search needs
 
-least-requires-2 : tie.Need-least-requires-2
-least-requires-2 c κs = search needs
-
-least-requires-3 : tie.Need-least-requires-3
-least-requires-3 c κs = search needs
-
-least-requires-4 : tie.Need-least-requires-4
-least-requires-4 c κs = search needs
+room-requires-2 : tie.Need-room-requires-2
+room-requires-2 c κs = search needs
 
 compare-refusal-requires : tie.Need-compare-refusal-requires
 compare-refusal-requires c κs = search needs
@@ -88,10 +76,8 @@ pub lockdapple-grids-compare-spec : {M : Type 1} → statement M
 lockdapple-grids-compare-spec =
     tie.close
     (tie.spec
-    least-requires
-    least-requires-2
-    least-requires-3
-    least-requires-4
+    room-requires
+    room-requires-2
     compare-refusal-requires
     returns
     cast-cells

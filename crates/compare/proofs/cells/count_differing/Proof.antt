@@ -5,7 +5,7 @@ use Prim.Native.Nat.{_+_, _-_, _≤_}
 use native.Mathlib.Nat.{zero-add}
 use native.Mathlib.Omega.{arith}
 use lib.ListN.{length}
-use Rattle.predict.specs.Grid.{gridOf}
+use Rattle.grid.specs.Grid.{gridOf}
 use Rattle.compare.specs.Differ.{differing}
 use Rattle.compare.proofs.DifferLaws.{differs-here, same-here, counted-all}
 use Rattle.compare.proofs.cells.count_differing.Statement.{statement}

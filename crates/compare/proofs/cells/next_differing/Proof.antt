@@ -4,7 +4,7 @@ use mathlib.Core.List.{List}
 use Prim.Native.Nat.{ℕ, _-_}
 use native.Mathlib.Omega.{arith}
 use lib.ListN.{getD}
-use Rattle.predict.specs.Grid.{gridOf}
+use Rattle.grid.specs.Grid.{gridOf}
 use Rattle.compare.specs.Differ.{differing}
 use Rattle.compare.proofs.DifferLaws.{none-left, differs-here, same-here}
 use Rattle.compare.proofs.cells.next_differing.Statement.{statement}

@@ -3,10 +3,10 @@ use borrow.Author.Needs.{needs}
 use mathlib.Core.Path.{sym, ap, _∙_}
 use native.Mathlib.Omega.{arith}
 use denote.Ref.{now}
-use Rattle.predict.specs.Grid.{gridOf}
+use Rattle.grid.specs.Grid.{gridOf}
+use Rattle.records.specs.Numbers.{OfBytes}
 use Rattle.gridfile.specs.declared.read.Shape.{Shape}
 use Rattle.gridfile.specs.Reading.{shapeOf, readAnswer}
-use Rattle.gridfile.specs.Keeps.{OfBytes}
 use Rattle.gridfile.proofs.Keeps.{accepted}
 use Rattle.compare_grids.proofs.files.read_grid.Statement.{statement}
 use Rattle.compare_grids.proofs.files.read_grid.Tie as tie

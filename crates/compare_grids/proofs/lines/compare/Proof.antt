@@ -12,17 +12,11 @@ use Rattle.compare.proofs.AnswerLaws.{both-hold}
 use Rattle.compare_grids.proofs.lines.compare.Statement.{statement}
 use Rattle.compare_grids.proofs.lines.compare.Tie as tie
 
-least-requires : tie.Need-least-requires
-least-requires c κs = search needs
+room-requires : tie.Need-room-requires
+room-requires c κs = search needs
 
-least-requires-2 : tie.Need-least-requires-2
-least-requires-2 c κs = search needs
-
-least-requires-3 : tie.Need-least-requires-3
-least-requires-3 c κs = search needs
-
-least-requires-4 : tie.Need-least-requires-4
-least-requires-4 c κs = search needs
+room-requires-2 : tie.Need-room-requires-2
+room-requires-2 c κs = search needs
 
 compare-refusal-requires : tie.Need-compare-refusal-requires
 compare-refusal-requires c κs = search needs
@@ -41,13 +35,13 @@ cast-cells c = search needs
 
 -- nothing is refused
 module _ (c : tie.Else1) where
-  abbrev rooms : tie.After-least4
+  abbrev rooms : tie.After-room2
   rooms = c .before .before
 
   abbrev entry : tie.Start
-  entry = rooms .before .before .before .before .before .before
+  entry = rooms .before .before .before .before
 
-  none : compareRefusal (entry .args .first) (rooms .before .before .least2 .result) (entry .args .second) (rooms .least4 .result) ≡ 0
+  none : compareRefusal (entry .args .first) (rooms .before .room .result) (entry .args .second) (rooms .room2 .result) ≡ 0
   none = sym (c .before .compare-refusal .ensures) ∙ c .if1 .left
 
   shape : (0 < entry .args .first .columns) × (entry .args .first .columns ≤ 256) × (entry .args .first .rows ≤ 256)
@@ -60,20 +54,18 @@ module _ (c : tie.Else1) where
   abbrev Held : ℕ → Type 0
   Held length = entry .args .first .columns * entry .args .first .rows ≤ length
 
-  held : Held (rooms .before .before .least2 .result) × Held (rooms .least4 .result)
-  held = both-hold (entry .args .first) (rooms .before .before .least2 .result) (entry .args .second) (rooms .least4 .result) none
+  held : Held (rooms .before .room .result) × Held (rooms .room2 .result)
+  held = both-hold (entry .args .first) (rooms .before .room .result) (entry .args .second) (rooms .room2 .result) none
 
   first-held : Held (length (now (entry .args .first-rows))) × Held (length (now (entry .args .first-cols))) × Held (length (now (entry .args .first-sads)))
   first-held =
-      let least = rooms .before .before .least2 .ensures in
-      let later = rooms .before .before .before .least .ensures in
-      (omega (arith, held .0, least), omega (arith, held .0, least, later), omega (arith, held .0, least, later))
+      let least = rooms .before .room .ensures in
+      (omega (arith, held .0, least), omega (arith, held .0, least), omega (arith, held .0, least))
 
   second-held : Held (length (now (entry .args .second-rows))) × Held (length (now (entry .args .second-cols))) × Held (length (now (entry .args .second-sads)))
   second-held =
-      let least = rooms .least4 .ensures in
-      let later = rooms .before .least3 .ensures in
-      (omega (arith, held .1, least), omega (arith, held .1, least, later), omega (arith, held .1, least, later))
+      let least = rooms .room2 .ensures in
+      (omega (arith, held .1, least), omega (arith, held .1, least), omega (arith, held .1, least))
 
 mul-cells : tie.Need-mul-cells
 mul-cells c = omega (arith, most (c .before .before))
@@ -96,10 +88,8 @@ pub compare-spec : {M : Type 1} → statement M
 compare-spec =
     tie.close
     (tie.spec
-    least-requires
-    least-requires-2
-    least-requires-3
-    least-requires-4
+    room-requires
+    room-requires-2
     compare-refusal-requires
     write-refused-requires
     returns

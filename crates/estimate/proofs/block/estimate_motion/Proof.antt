@@ -18,8 +18,8 @@ use Rattle.sad.specs.Cost.{rdAt}
 use Rattle.sad.proofs.Sums.{Under}
 use Rattle.search.specs.declared.result.MotionSearchResult.{MotionSearchResult}
 use Rattle.search.proofs.FoundLaws.{Settled}
+use Rattle.grid.specs.Grid.{gridOf}
 use Rattle.predict.specs.declared.predictors.MotionEstimationSubsets.{MotionEstimationSubsets}
-use Rattle.predict.specs.Grid.{gridOf}
 use Rattle.predict.specs.Predictors.{subsetsOf}
 use Rattle.predict.proofs.SubsetLaws.{Sound, subsets-sound}
 use Rattle.estimate.specs.Block.{Listed, blockIn, costIn, fullPixelMe, statsOf, estimateMotion}

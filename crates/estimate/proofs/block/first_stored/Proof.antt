@@ -3,7 +3,7 @@
 use borrow.Author.Needs.{needs}
 use mathlib.Core.Path.{ap, _∙_}
 use denote.Ref.{now}
-use Rattle.predict.specs.Grid.{storedAt}
+use Rattle.grid.specs.Grid.{storedAt}
 use Rattle.estimate.specs.Block.{firstStored}
 use Rattle.estimate.proofs.block.first_stored.Statement.{statement}
 use Rattle.estimate.proofs.block.first_stored.Tie as tie

@@ -3,8 +3,8 @@
 use borrow.Author.Needs.{needs}
 use mathlib.Core.Path.{sym, ap, subst, _∙_}
 use denote.Ref.{now}
-use Rattle.predict.specs.Grid.{Grid, Held, gridOf}
-use Rattle.predict.specs.Previous.{Previous, previousOf}
+use Rattle.grid.specs.Grid.{Grid, Held, gridOf}
+use Rattle.grid.specs.Previous.{Previous, previousOf}
 use Rattle.estimate.specs.Inputs.{Inputs, inputsOf, four, three, two}
 use Rattle.frame.specs.Run.{planeAt, levelRun, inputsAt, frameRun}
 use Rattle.frame.proofs.RunLaws.{held-run}

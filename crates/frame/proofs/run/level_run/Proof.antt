@@ -8,8 +8,8 @@ use native.Mathlib.Omega.{arith}
 use lib.ListN.{length, take, getD}
 use lib.Seq.{take-all}
 use denote.Ref.{now}
-use Rattle.predict.specs.Grid.{Grid, gridOf}
-use Rattle.predict.specs.Previous.{Previous, previousOf}
+use Rattle.grid.specs.Grid.{Grid, gridOf}
+use Rattle.grid.specs.Previous.{Previous, previousOf}
 use Rattle.estimate.specs.Inputs.{Inputs, inputsOf}
 use Rattle.frame.specs.Step.{step}
 use Rattle.frame.specs.Run.{levelRun}

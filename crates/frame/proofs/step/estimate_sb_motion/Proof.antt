@@ -9,9 +9,9 @@ use Rattle.motion.specs.declared.level.Level.{Level}
 use Rattle.motion.specs.Limits.{largestSide, superblockSide}
 use Rattle.motion.specs.Frame.{Side, Starts}
 use Rattle.motion.specs.Level.{levelOf}
-use Rattle.predict.specs.declared.grid.MEStats.{MEStats}
-use Rattle.predict.specs.Grid.{Grid, Held, gridOf}
-use Rattle.predict.specs.Previous.{previousOf}
+use Rattle.grid.specs.declared.cells.MEStats.{MEStats}
+use Rattle.grid.specs.Grid.{Grid, Held, gridOf}
+use Rattle.grid.specs.Previous.{previousOf}
 use Rattle.estimate.specs.Inputs.{inputsOf}
 use Rattle.estimate.specs.Block.{estimateMotion}
 use Rattle.frame.specs.Step.{blockCount, blockX, blockY, worked, estimates}

@@ -10,8 +10,8 @@ use Rattle.motion.specs.Limits.{largestSide, superblockSide}
 use Rattle.motion.specs.Frame.{Side, Starts}
 use Rattle.motion.specs.Level.{levelOf}
 use Rattle.points.specs.Window.{windowOk}
-use Rattle.predict.specs.declared.grid.MEStats.{MEStats}
-use Rattle.predict.specs.Grid.{Grid, Held, gridOf}
+use Rattle.grid.specs.declared.cells.MEStats.{MEStats}
+use Rattle.grid.specs.Grid.{Grid, Held, gridOf}
 use Rattle.estimate.specs.Inputs.{inputsOf}
 use Rattle.estimate.specs.Block.{windowAt, refineMotion}
 use Rattle.frame.specs.Step.{blockX, blockY, worked, refinedCount, refinements}

@@ -5,8 +5,8 @@ use mathlib.Core.Path.{_≡_, sym, ap, subst, _∙_}
 use mathlib.Core.Bool.{true}
 use denote.Ref.{now}
 use Rattle.motion.proofs.TestLaws.{failed, passed}
-use Rattle.predict.specs.Grid.{Grid, Held, gridOf}
-use Rattle.predict.specs.Previous.{Previous, previousOf}
+use Rattle.grid.specs.Grid.{Grid, Held, gridOf}
+use Rattle.grid.specs.Previous.{Previous, previousOf}
 use Rattle.estimate.specs.Inputs.{Inputs, inputsOf}
 use Rattle.frame.specs.Step.{windowsOk, estimates}
 use Rattle.frame.proofs.StepLaws.{held-long, refinements-long, step-refused, step-taken}

@@ -8,7 +8,7 @@ use lib.Dec.{eqb}
 use lib.ListN.{drop}
 use denote.Ref.{now}
 use Rattle.motion.proofs.TestLaws.{passed, failed}
-use Rattle.gridfile.specs.Records.{headerBytes, fileBytes}
+use Rattle.records.specs.Records.{headerBytes, fileBytes}
 use Rattle.gridfile.specs.Reading.{between, taken, ended}
 use Rattle.gridfile.proofs.WriteLaws.{shape-most}
 use Rattle.gridfile.proofs.PlaceLaws.{marks-stop, cut-short, too-long, just-long}

@@ -5,9 +5,9 @@ use native.Mathlib.Numerals.{add-one}
 use native.Mathlib.Omega.{arith}
 use lib.ListN.{length}
 use denote.Ref.{now}
-use Rattle.predict.specs.declared.grid.MEStats.{MEStats}
-use Rattle.predict.specs.Grid.{Grid, gridOf, withCell}
-use Rattle.gridfile.specs.Records.{fileBytes}
+use Rattle.grid.specs.declared.cells.MEStats.{MEStats}
+use Rattle.grid.specs.Grid.{Grid, gridOf, withCell}
+use Rattle.records.specs.Records.{fileBytes}
 use Rattle.gridfile.proofs.WriteLaws.{shape-most}
 use Rattle.gridfile.proofs.LeftLaws.{Left, left-all, left-there, left-next, left-none}
 use Rattle.gridfile.proofs.read.get_cells.Statement.{statement}

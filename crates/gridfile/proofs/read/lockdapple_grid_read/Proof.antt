@@ -5,8 +5,8 @@ use Prim.Native.Nat.{ℕ, _≤_, min}
 use native.Mathlib.Omega.{arith}
 use lib.ListN.{length}
 use denote.Ref.{now}
-use Rattle.predict.specs.Grid.{Grid, gridOf}
-use Rattle.gridfile.specs.Reading.{room, shapeOf}
+use Rattle.grid.specs.Grid.{Grid, gridOf, room}
+use Rattle.gridfile.specs.Reading.{shapeOf}
 use Rattle.gridfile.proofs.HeaderLaws.{headNumber}
 use Rattle.gridfile.proofs.AnswerLaws.{refused-answer, refused-grid, header-number, header-there, header-fits, cells-number, done-answer, done-grid}
 use Rattle.gridfile.proofs.read.lockdapple_grid_read.Statement.{statement}
@@ -15,7 +15,7 @@ use Rattle.gridfile.proofs.read.lockdapple_grid_read.Tie as tie
 -- the header's number, of the lent grid
 module _ (c : tie.After-header-refusal) where
   abbrev entry : tie.Start
-  entry = c .before .before .before .before .before
+  entry = c .before .before .before .before
 
   abbrev lent : Grid
   lent = gridOf (now (entry .args .rows)) (now (entry .args .cols)) (now (entry .args .sads))
@@ -24,7 +24,7 @@ module _ (c : tie.After-header-refusal) where
   unfolding room
   number =
       c .header-refusal .ensures
-      ∙ ap (λ (n : ℕ). headNumber n (now (entry .args .file))) (c .before .least2 .ensures ∙ ap (min (length (now (entry .args .rows)))) (c .before .before .least .ensures))
+      ∙ ap (λ (n : ℕ). headNumber n (now (entry .args .file))) (c .before .room .ensures)
 
 -- its columns and rows, where nothing is wrong with it
 module _ (c : tie.Else1) where
@@ -34,11 +34,8 @@ module _ (c : tie.Else1) where
   there : 4 ≤ length (now (entry (c .before) .args .file))
   there = header-there (now (entry (c .before) .args .file)) (lent (c .before)) fine
 
-least-requires : tie.Need-least-requires
-least-requires c κs = search needs
-
-least-requires-2 : tie.Need-least-requires-2
-least-requires-2 c κs = search needs
+room-requires : tie.Need-room-requires
+room-requires c κs = search needs
 
 header-refusal-requires : tie.Need-header-refusal-requires
 header-refusal-requires c κs = search needs
@@ -97,11 +94,11 @@ get-cells-requires c κs =
 abbrev read-of : tie.After-slice-known2 → tie.After-shared-slice-known3
 read-of c = c .before .before .before .before .before .before .before .before .before .before
 
-cast-t25 : tie.Need-cast-t25
-cast-t25 c = omega (arith, read-of c .shared-slice-known3 .given 2)
+cast-t24 : tie.Need-cast-t24
+cast-t24 c = omega (arith, read-of c .shared-slice-known3 .given 2)
 
-cast-t26 : tie.Need-cast-t26
-cast-t26 c = omega (arith, read-of c .shared-slice-known3 .given 3)
+cast-t25 : tie.Need-cast-t25
+cast-t25 c = omega (arith, read-of c .shared-slice-known3 .given 3)
 
 same-length : tie.Need-same-length
 same-length c = search needs
@@ -126,8 +123,7 @@ pub lockdapple-grid-read-spec : {M : Type 1} → statement M
 lockdapple-grid-read-spec =
     tie.close
     (tie.spec
-    least-requires
-    least-requires-2
+    room-requires
     header-refusal-requires
     returns
     shared-slice-read-columns
@@ -139,8 +135,8 @@ lockdapple-grid-read-spec =
     cells-refusal-requires
     returns-2
     get-cells-requires
+    cast-t24
     cast-t25
-    cast-t26
     same-length
     same-length-2
     same-length-3

@@ -7,7 +7,7 @@ use lib.ListN.{length}
 use denote.Ref.{now}
 use Rattle.motion.specs.Every.{allBelow}
 use Rattle.motion.proofs.EveryLaws.{below-none, below-more, below-fails}
-use Rattle.gridfile.specs.Records.{fileBytes}
+use Rattle.records.specs.Records.{fileBytes}
 use Rattle.gridfile.proofs.MarkLaws.{mark-holds, mark-fails}
 use Rattle.gridfile.proofs.PlaceLaws.{cellMarked}
 use Rattle.gridfile.proofs.read.marks_hold.Statement.{statement}

@@ -7,8 +7,8 @@ use Prim.Native.Nat.{_*_, _/_, _^_, _≤_}
 use native.Mathlib.Omega.{arith}
 use denote.Ref.{now}
 use Rattle.motion.specs.Limits.{cellSide}
-use Rattle.predict.specs.Grid.{Grid, gridOf, cells}
-use Rattle.gridfile.specs.Records.{fileBytes}
+use Rattle.grid.specs.Grid.{Grid, gridOf, cells}
+use Rattle.records.specs.Records.{fileBytes}
 use Rattle.gridfile.specs.Writing.{writeRefusal, writtenOf, writeAnswer, writtenFile}
 use Rattle.gridfile.proofs.WriteLaws.{cells-most, cells-even, Writes, writes, file-put}
 use Rattle.gridfile.proofs.write.lockdapple_grid_write.Statement.{statement}

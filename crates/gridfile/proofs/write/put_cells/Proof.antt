@@ -9,11 +9,12 @@ use native.Mathlib.Omega.{arith}
 use lib.ListN.{length}
 use lib.Seq.{sets, length-sets}
 use denote.Ref.{now}
-use Rattle.predict.specs.declared.grid.MEStats.{MEStats}
-use Rattle.predict.specs.Grid.{Grid, gridOf, statsAt}
-use Rattle.gridfile.specs.Records.{headerBytes, cellBytes, cellRecord, fileBytes}
+use Rattle.grid.specs.declared.cells.MEStats.{MEStats}
+use Rattle.grid.specs.Grid.{Grid, gridOf, statsAt}
+use Rattle.records.specs.Records.{headerBytes, cellBytes, cellRecord, fileBytes}
+use Rattle.records.proofs.NumberLaws.{puts-on}
 use Rattle.gridfile.specs.Writing.{cellRecords}
-use Rattle.gridfile.proofs.WriteLaws.{length-cells, puts-on, cells-snoc}
+use Rattle.gridfile.proofs.WriteLaws.{length-cells, cells-snoc}
 use Rattle.gridfile.proofs.write.put_cells.Statement.{statement}
 use Rattle.gridfile.proofs.write.put_cells.Tie as tie
 

@@ -8,10 +8,10 @@ use Prim.Native.Nat.{_*_, _/_, _^_, _≤_}
 use native.Mathlib.Omega.{arith}
 use Rattle.motion.specs.Limits.{largestSide, cellSide}
 use Rattle.motion.proofs.TestLaws.{passed, failed}
-use Rattle.predict.specs.Grid.{cells}
+use Rattle.grid.specs.Grid.{cells}
 use Rattle.refusal.specs.Tests.{refuse, _then_, sideOk, gridHolds}
 use Rattle.refusal.proofs.RefusalLaws.{side-of}
-use Rattle.gridfile.specs.Records.{fileBytes}
+use Rattle.records.specs.Records.{fileBytes}
 use Rattle.gridfile.specs.Writing.{writeRefusal}
 use Rattle.gridfile.proofs.WriteLaws.{cells-most}
 use Rattle.gridfile.proofs.write.write_refusal.Statement.{statement}

@@ -5,10 +5,10 @@ use mathlib.Core.Path.{_≡_, sym, ap₂, subst₂, _∙_}
 use Prim.Native.Nat.{ℕ, _*_, _≤_, _<_}
 use denote.Ref.{now}
 use Rattle.motion.specs.Superblock.{superblocksAlong}
-use Rattle.predict.specs.Grid.{Grid, gridOf}
-use Rattle.predict.specs.Previous.{previous}
-use Rattle.order.specs.List.{mostSuperblocks, listRefusal}
+use Rattle.grid.specs.Grid.{Grid, gridOf}
+use Rattle.grid.specs.Previous.{previous}
 use Rattle.frame.specs.Run.{Planes, planesOf, planeAt}
+use Rattle.order.specs.List.{mostSuperblocks, listRefusal}
 use Rattle.inter.specs.Runs.{runTests}
 use Rattle.inter.proofs.ReadyLaws.{RunReady, run-ready, few-superblocks, list-inside}
 use Rattle.inter.proofs.OutcomeLaws.{run-refused, list-refused, run-done}

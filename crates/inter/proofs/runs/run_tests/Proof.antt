@@ -8,9 +8,9 @@ use lib.ListN.{length}
 use denote.Ref.{now}
 use Rattle.motion.specs.Limits.{largestSide}
 use Rattle.motion.proofs.TestLaws.{passed, failed}
-use Rattle.frame.specs.Run.{planeAt}
 use Rattle.refusal.specs.Tests.{refuse, _then_, sideOk, planesRefusal}
 use Rattle.refusal.proofs.RefusalLaws.{side-of, planes-short}
+use Rattle.frame.specs.Run.{planeAt}
 use Rattle.inter.specs.Runs.{lentRefusal, runTests}
 use Rattle.inter.proofs.runs.run_tests.Statement.{statement}
 use Rattle.inter.proofs.runs.run_tests.Tie as tie

@@ -6,8 +6,8 @@ use mathlib.Core.List.{List}
 use Prim.Native.Nat.{ℕ}
 use denote.Ref.{now}
 use Rattle.motion.proofs.TestLaws.{passed, failed}
-use Rattle.predict.specs.Grid.{Grid, gridOf}
-use Rattle.predict.specs.Previous.{previous}
+use Rattle.grid.specs.Grid.{Grid, gridOf}
+use Rattle.grid.specs.Previous.{previous}
 use Rattle.estimate.specs.Inputs.{inputsOf}
 use Rattle.frame.specs.Step.{step}
 use Rattle.frame.specs.Run.{planesOf, planeAt}

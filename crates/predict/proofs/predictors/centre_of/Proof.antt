@@ -5,8 +5,8 @@ use borrow.Author.Tests.{not-true, not-false}
 use mathlib.Core.Path.{_≡_, refl, ap, _∙_}
 use native.Mathlib.Omega.{arith}
 use denote.Ref.{now}
-use Rattle.predict.specs.declared.grid.MEStats.{MEStats}
-use Rattle.predict.specs.Grid.{gridOf, statsAt}
+use Rattle.grid.specs.declared.cells.MEStats.{MEStats}
+use Rattle.grid.specs.Grid.{gridOf, statsAt}
 use Rattle.predict.specs.Sampled.{taken}
 use Rattle.predict.specs.Predictors.{predictor, predictorsAt, sadsAt, leastOf}
 use Rattle.predict.proofs.predictors.centre_of.Statement.{statement}

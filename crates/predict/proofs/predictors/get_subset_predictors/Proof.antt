@@ -17,16 +17,17 @@ use Rattle.motion.specs.Limits.{cellSide, largestSide}
 use Rattle.motion.specs.Level.{levelOf}
 use Rattle.motion.specs.Vector.{zeroV}
 use Rattle.motion.specs.Block.{blockOf}
-use Rattle.predict.specs.declared.grid.MEStats.{MEStats}
+use Rattle.grid.specs.declared.cells.MEStats.{MEStats}
+use Rattle.grid.specs.Grid.{Grid, gridOf}
+use Rattle.grid.proofs.CellLaws.{reached}
 use Rattle.predict.specs.declared.sampled.Cells.{Cells}
 use Rattle.predict.specs.declared.predictors.Subset.{Subset}
 use Rattle.predict.specs.declared.predictors.MotionEstimationSubsets.{MotionEstimationSubsets}
-use Rattle.predict.specs.Grid.{Grid, gridOf}
 use Rattle.predict.specs.Slots.{cellsOf}
 use Rattle.predict.specs.Sampled.{taken, centreCell, cellsB, cellsC, cellsCentre}
 use Rattle.predict.specs.Predictors.{predictorsAt, sadsAt, leastOf, minimumSad, stopThreshold, subsetOf, subsetsOf}
 use Rattle.predict.proofs.AreaLaws.{level-small, block-area, minimum-small}
-use Rattle.predict.proofs.HeldCells.{reached, reaches, reaches-c, held-list, held-asked}
+use Rattle.predict.proofs.HeldCells.{reaches, reaches-c, held-list, held-asked}
 use Rattle.predict.proofs.SampledLaws.{b-few, c-few}
 use Rattle.predict.proofs.InsideLaws.{b-inside, middle-cell}
 use Rattle.predict.proofs.LeastLaws.{least-both}

@@ -10,8 +10,8 @@ use lib.Seq.{length-take-le}
 use denote.Ref.{now}
 use Rattle.motion.specs.declared.vector.MotionVector.{MotionVector}
 use Rattle.motion.specs.Vector.{zeroV}
-use Rattle.predict.specs.declared.grid.MEStats.{MEStats}
-use Rattle.predict.specs.Grid.{gridOf, statsAt}
+use Rattle.grid.specs.declared.cells.MEStats.{MEStats}
+use Rattle.grid.specs.Grid.{gridOf, statsAt}
 use Rattle.predict.specs.Slots.{slotted}
 use Rattle.predict.specs.Predictors.{predictor, predictorsAt, sadsAt, leastOf, subsetOf}
 use Rattle.predict.proofs.PredictorLaws.{predictors-next}

@@ -8,8 +8,8 @@ use Prim.Native.Nat.{ℕ, _+_, _/_, _≤_, _^_}
 use native.Mathlib.Omega.{arith}
 use lib.Dec.{ltb}
 use Rattle.motion.specs.Limits.{cellSide}
+use Rattle.grid.specs.Grid.{cellAt}
 use Rattle.predict.specs.declared.sampled.Cells.{Cells}
-use Rattle.predict.specs.Grid.{cellAt}
 use Rattle.predict.specs.Slots.{cellsOf}
 use Rattle.predict.specs.Sampled.{taken, neighbours}
 use Rattle.predict.proofs.SampledLaws.{along-most, Filled, empty, room, took}

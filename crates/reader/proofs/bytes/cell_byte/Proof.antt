@@ -7,7 +7,7 @@ use native.Mathlib.Numerals.{add-one}
 use native.Mathlib.Omega.{arith}
 use borrow.Author.Tests.{ne-eqb}
 use Rattle.motion.proofs.TestLaws.{passed, failed}
-use Rattle.gridfile.specs.Records.{cellBytes}
+use Rattle.records.specs.Records.{cellBytes}
 use Rattle.gridfile.proofs.WriteLaws.{shape-most}
 use Rattle.reader.specs.Held.{plain, recordBytes, readerOf}
 use Rattle.reader.proofs.OpenLaws.{Open, opened}

@@ -7,7 +7,7 @@ use lib.ListN.{getD}
 use mir.Syntax.{w8}
 use mir.Val.{Fits}
 use Rattle.motion.proofs.TestLaws.{passed, failed}
-use Rattle.gridfile.specs.Records.{headerBytes}
+use Rattle.records.specs.Records.{headerBytes}
 use Rattle.reader.specs.Held.{recordBytes, readerOf}
 use Rattle.reader.proofs.OpenLaws.{Open, opened}
 use Rattle.reader.proofs.ByteLaws.{by-wrong, by-more, by-last, head-next, head-done}

@@ -6,8 +6,8 @@ use Prim.Native.Nat.{ℕ, _*_, _≤_, min}
 use native.Mathlib.Omega.{arith}
 use lib.ListN.{length}
 use denote.Ref.{now}
-use Rattle.predict.specs.Grid.{Grid, gridOf}
-use Rattle.gridfile.specs.Reading.{taken, kept, room}
+use Rattle.grid.specs.Grid.{Grid, gridOf, room}
+use Rattle.gridfile.specs.Reading.{taken, kept}
 use Rattle.reader.specs.declared.reader.Reader.{Reader}
 use Rattle.reader.specs.Held.{readerOf, stateOf}
 use Rattle.reader.specs.Calls.{Fits}
@@ -35,11 +35,8 @@ returns c =
     let called = c .before .before in
     take-refused (entry called .args .reader) (first called) (called .settled .ensures) (c .if1 .taken) (now (entry called .args .fragment)) (lent called)
 
-least-requires : tie.Need-least-requires
-least-requires c κs = search needs
-
-least-requires-2 : tie.Need-least-requires-2
-least-requires-2 c κs = search needs
+room-requires : tie.Need-room-requires
+room-requires c κs = search needs
 
 open-here : (c : tie.Else1) → Open (first (c .before .before))
 open-here c =
@@ -48,14 +45,13 @@ open-here c =
 
 count-of-requires : tie.Need-count-of-requires
 count-of-requires c κs =
-    let here = open-here (c .before .before) in
+    let here = open-here (c .before) in
     (here .wide, here .high)
 
 -- the shortest buffer
-space-is : (c : tie.After-least2) → c .least2 .result ≡ room (lent (c .before .before .before .before))
+space-is : (c : tie.After-room) → c .room .result ≡ room (lent (c .before .before .before))
 unfolding room
-space-is c =
-    c .least2 .ensures ∙ ap (min (length (now (entry (c .before .before .before .before) .args .rows)))) (c .before .least .ensures)
+space-is c = c .room .ensures
 
 between-requires : tie.Need-between-requires
 between-requires c κs = search needs
@@ -63,19 +59,19 @@ between-requires c κs = search needs
 returns-2 : tie.Need-returns-2
 returns-2 c =
     let counted = c .before .before in
-    let none = counted .before .before .before in
+    let none = counted .before .before in
     let called = none .before .before in
     let answer = take-short (entry called .args .reader) (first called) (called .settled .ensures) (none .if1 .left) (now (entry called .args .fragment)) (lent called) (omega (arith, counted .count-of .ensures, space-is (counted .before), c .before .if2 .taken)) in
     (c .between .ensures ∙ answer .0, answer .1)
 
 -- the grid holds what the header said
-holds : (c : tie.Else2) → first (c .before .before .before .before .before .before) .columns * first (c .before .before .before .before .before .before) .rows ≤ room (lent (c .before .before .before .before .before .before))
+holds : (c : tie.Else2) → first (c .before .before .before .before .before) .columns * first (c .before .before .before .before .before) .rows ≤ room (lent (c .before .before .before .before .before))
 holds c = omega (arith, c .before .count-of .ensures, space-is (c .before .before), c .if2 .left)
 
 take-fragment-requires : tie.Need-take-fragment-requires
 take-fragment-requires c κs =
     let long = c .before .before .before in
-    let none = long .before .before .before .before in
+    let none = long .before .before .before in
     let called = none .before .before in
     let space = space-is (long .before .before) in
     let fits = first-fits (entry called .args .reader) (first called) (called .settled .ensures) (none .if1 .left) (lent called) (holds long) in (
@@ -98,7 +94,7 @@ returns-3 : tie.Need-returns-3
 returns-3 c =
     let done = c .before .before .before .before in
     let long = done .before .before .before .before in
-    let none = long .before .before .before .before in
+    let none = long .before .before .before in
     let called = none .before .before in
     let space = space-is (long .before .before) in
     let fragment = now (entry called .args .fragment) in
@@ -113,8 +109,7 @@ lockdapple-reader-take-spec =
     (tie.spec
     settled-requires
     returns
-    least-requires
-    least-requires-2
+    room-requires
     count-of-requires
     between-requires
     returns-2

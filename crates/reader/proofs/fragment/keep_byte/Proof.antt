@@ -5,9 +5,9 @@ use Prim.Native.Nat.{_*_, _≤_, _<_}
 use native.Mathlib.Omega.{arith}
 use lib.ListN.{length, length-set}
 use denote.Ref.{now}
-use Rattle.predict.specs.declared.grid.MEStats.{MEStats}
-use Rattle.predict.specs.Grid.{Grid, gridOf, withCell}
-use Rattle.gridfile.specs.Reading.{begun, room}
+use Rattle.grid.specs.declared.cells.MEStats.{MEStats}
+use Rattle.grid.specs.Grid.{Grid, gridOf, withCell, room}
+use Rattle.gridfile.specs.Reading.{begun}
 use Rattle.reader.specs.Held.{partBytes}
 use Rattle.reader.specs.Calls.{Fits}
 use Rattle.reader.proofs.OpenLaws.{Open, opened}

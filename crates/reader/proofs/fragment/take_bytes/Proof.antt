@@ -7,8 +7,8 @@ use lib.ListN.{length, getD}
 use denote.Ref.{now}
 use mir.Syntax.{w8}
 use mir.Val as val
-use Rattle.predict.specs.Grid.{gridOf}
-use Rattle.gridfile.specs.Keeps.{OfBytes}
+use Rattle.grid.specs.Grid.{gridOf}
+use Rattle.records.specs.Numbers.{OfBytes}
 use Rattle.reader.specs.Held.{stateOf}
 use Rattle.reader.specs.Calls.{Fits}
 use Rattle.reader.proofs.TurnLaws.{Begins, begins, Turned, turned-none, turned-all, turned-settled, turned-fits, turned-long, turned-room, turned-more, turned-refused}

@@ -8,9 +8,9 @@ use lib.ListN.{getD, take}
 use denote.Ref.{now}
 use mir.Syntax.{w8}
 use mir.Val as val
-use Rattle.predict.specs.Grid.{Grid, gridOf}
+use Rattle.grid.specs.Grid.{Grid, gridOf}
+use Rattle.records.specs.Numbers.{OfBytes}
 use Rattle.gridfile.specs.Reading.{taken, kept}
-use Rattle.gridfile.specs.Keeps.{OfBytes}
 use Rattle.reader.specs.Held.{readerOf, stateOf}
 use Rattle.reader.proofs.OpenLaws.{opened}
 use Rattle.reader.proofs.TurnLaws.{Begins, begins, Turned, turned-settled, turned-fits, turned-room, turned-rest}

@@ -9,10 +9,10 @@ use denote.Ref.{now}
 use mir.Syntax.{w8, w32}
 use mir.Val as val
 use Rattle.motion.proofs.TestLaws.{passed}
-use Rattle.predict.specs.Grid.{Grid, gridOf}
-use Rattle.gridfile.specs.Records.{cellBytes}
-use Rattle.gridfile.specs.Reading.{between, kept, room}
-use Rattle.gridfile.specs.Keeps.{OfBytes}
+use Rattle.grid.specs.Grid.{Grid, gridOf, room}
+use Rattle.records.specs.Records.{cellBytes}
+use Rattle.records.specs.Numbers.{OfBytes}
+use Rattle.gridfile.specs.Reading.{between, kept}
 use Rattle.gridfile.proofs.WriteLaws.{shape-most}
 use Rattle.reader.specs.declared.reader.Reader.{Reader}
 use Rattle.reader.specs.Held.{stateOf}

@@ -7,9 +7,9 @@ use Prim.Native.Nat.{ℕ, _+_, _-_, _*_, _^_, _≤_, _<_}
 use native.Mathlib.Omega.{arith}
 use lib.ListN.{length}
 use denote.Ref.{now}
-use Rattle.predict.specs.declared.grid.MEStats.{MEStats}
-use Rattle.predict.specs.Grid.{Grid, gridOf, withCell}
-use Rattle.gridfile.specs.Records.{cellBytes}
+use Rattle.grid.specs.declared.cells.MEStats.{MEStats}
+use Rattle.grid.specs.Grid.{Grid, gridOf, withCell}
+use Rattle.records.specs.Records.{cellBytes}
 use Rattle.gridfile.proofs.WriteLaws.{shape-most}
 use Rattle.gridfile.proofs.MarkLaws.{markedAt, mark-holds}
 use Rattle.gridfile.proofs.KeptLaws.{SameLengths}

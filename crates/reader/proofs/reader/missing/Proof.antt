@@ -3,7 +3,7 @@ use borrow.Author.Needs.{needs}
 use mathlib.Core.Path.{_≡_, ap}
 use Prim.Native.Nat.{ℕ, _+_, _-_, _%_}
 use native.Mathlib.Omega.{arith}
-use Rattle.gridfile.specs.Records.{cellBytes}
+use Rattle.records.specs.Records.{cellBytes}
 use Rattle.reader.specs.Held.{recordBytes}
 use Rattle.reader.proofs.HeldLaws.{some-bytes}
 use Rattle.reader.proofs.reader.missing.Statement.{statement}

@@ -4,7 +4,7 @@ use borrow.Author.Tests.{le-leb, lt-leb}
 use Prim.Native.Nat.{_/_, _^_}
 use native.Mathlib.Nat.{mul-le-mul}
 use native.Mathlib.Omega.{arith}
-use Rattle.predict.specs.Grid.{cells}
+use Rattle.grid.specs.Grid.{cells}
 use Rattle.refusal.specs.Tests.{gridOk}
 use Rattle.refusal.proofs.tests.grid_ok.Statement.{statement}
 use Rattle.refusal.proofs.tests.grid_ok.Tie as tie

@@ -5,7 +5,7 @@ use native.Mathlib.Omega.{arith}
 use lib.ListN.{length}
 use lib.Seq.{length-sets}
 use denote.Ref.{now}
-use Rattle.predict.specs.Grid.{Grid, gridOf}
+use Rattle.grid.specs.Grid.{Grid, gridOf}
 use Rattle.compare.specs.Differ.{differing}
 use Rattle.text.specs.Put.{Put}
 use Rattle.text.proofs.PutLaws.{behind}

@@ -4,7 +4,7 @@ use borrow.Author.Needs.{needs}
 use Prim.Native.Nat.{_≤_}
 use native.Mathlib.Omega.{arith}
 use lib.ListN.{length}
-use Rattle.gridfile.specs.Records.{FitsCell}
+use Rattle.records.specs.Records.{FitsCell}
 use Rattle.text.proofs.PutLaws.{behind}
 use Rattle.report.specs.Lines.{lineRoom, placeText, cellText, cellLine}
 use Rattle.report.proofs.LineLaws.{spaced, place-most, cell-most, line-most}

@@ -6,7 +6,7 @@ use native.Mathlib.Omega.{arith}
 use Rattle.motion.specs.Level.{levelOf}
 use Rattle.motion.specs.Frame.{Placed}
 use Rattle.motion.proofs.TestLaws.{passed, failed}
-use Rattle.predict.specs.Previous.{previous}
+use Rattle.grid.specs.Previous.{previous}
 use Rattle.predict.proofs.SubsetLaws.{Sound, subsets-sound}
 use Rattle.refusal.specs.Tests.{refuse, _then_, sizeOf, blockRefusal}
 use Rattle.refusal.proofs.RefusalLaws.{refuse-is, first-is, then-later, accepted}

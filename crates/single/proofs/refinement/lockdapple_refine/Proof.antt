@@ -10,8 +10,8 @@ use Rattle.motion.specs.declared.block.Block.{Block}
 use Rattle.motion.specs.declared.level.Level.{Level}
 use Rattle.motion.proofs.TestLaws.{passed, failed}
 use Rattle.sad.specs.Plane.{Lies}
-use Rattle.predict.specs.Grid.{gridOf, cells, cellAt, storedAt}
-use Rattle.predict.proofs.InsideLaws.{cell-inside}
+use Rattle.grid.specs.Grid.{gridOf, cells, cellAt, storedAt}
+use Rattle.grid.proofs.CellLaws.{cell-inside}
 use Rattle.refusal.specs.Tests.{gridHolds}
 use Rattle.refusal.proofs.RefusalLaws.{held, row-bounds}
 use Rattle.single.specs.Found.{refused}

@@ -1,8 +1,8 @@
 -- `search::result::MotionSearchResult::empty` meets its contract.
 -- Assumes nothing.
 use borrow.Author.Needs.{needs}
-use Rattle.search.specs.Result.{emptyResult}
 use Rattle.motion.specs.Vector.{zeroV}
+use Rattle.search.specs.Result.{emptyResult}
 use Rattle.search.proofs.result.MotionSearchResult.empty.Statement.{statement}
 use Rattle.search.proofs.result.MotionSearchResult.empty.Tie as tie
 

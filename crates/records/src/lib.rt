@@ -1,0 +1,3 @@
+// The records of a grid file: numbers as bytes, and the parts that a file consists of.
+pub mod numbers;
+pub mod parts;
