@@ -5,7 +5,7 @@ use crate::changes::LENT_CELLS;
 use crate::changes::SAD_BEFORE;
 use crate::changes::report;
 use inter::runs::lockdapple_frame_run;
-use inter::steps::lockdapple_superblock_step;
+use steps::steps::lockdapple_superblock_step;
 
 // What the case lends of a buffer: its first elements, or all where there are no more.
 fn plane(all: &[u8], case: Case, buffer: usize) -> &[u8] {

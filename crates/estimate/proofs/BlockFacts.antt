@@ -19,6 +19,8 @@ use Rattle.motion.specs.Frame.{Side, Starts, Sized, own4, own3, own2, refined3,
 use Rattle.motion.specs.Block.{blockOf}
 use Rattle.motion.proofs.BlockLaws.{zero-in-range, shl-fits, some-columns, some-rows}
 use Rattle.motion.proofs.LevelLaws.{each-level}
+use Rattle.grid.specs.Grid.{cells, cellAt}
+use Rattle.grid.proofs.CellLaws.{cell-inside}
 use Rattle.sad.specs.declared.rd.MVCandidateRD.{MVCandidateRD}
 use Rattle.sad.specs.Plane.{Measured, Lies}
 use Rattle.sad.specs.Cost.{rdOf, rdAt}
@@ -29,8 +31,6 @@ use Rattle.search.specs.declared.result.MotionSearchResult.{MotionSearchResult}
 use Rattle.search.specs.Result.{CostOf, emptyResult, cheaper, tryOne}
 use Rattle.search.proofs.LeastLaws.{least-each, least-tried, least-cheaper, least-diamond, least-multi}
 use Rattle.search.proofs.FoundLaws.{LooseKept, Settled, loose-empty, loose-one, loose-each, loose-cheaper, loose-diamond, loose-multi, settled}
-use Rattle.grid.specs.Grid.{cells, cellAt}
-use Rattle.grid.proofs.CellLaws.{cell-inside}
 use Rattle.predict.specs.declared.predictors.MotionEstimationSubsets.{MotionEstimationSubsets}
 use Rattle.predict.proofs.SubsetLaws.{Sound}
 use Rattle.estimate.specs.Inputs.{Inputs, Leveled, four, three, two, Ready}

@@ -11,6 +11,9 @@ use Rattle.motion.specs.declared.block.Block.{Block}
 use Rattle.motion.specs.Vector.{zeroV, shlV}
 use Rattle.motion.specs.Level.{levelOf}
 use Rattle.motion.specs.Block.{blockOf}
+use Rattle.grid.specs.declared.cells.MEStats.{MEStats}
+use Rattle.grid.specs.Grid.{Grid, cellAt, storedAt}
+use Rattle.grid.specs.Previous.{Previous}
 use Rattle.sad.specs.Cost.{rdAt}
 use Rattle.points.specs.declared.window.Window.{Window}
 use Rattle.points.specs.Window.{refineWindow}
@@ -19,11 +22,8 @@ use Rattle.search.specs.Result.{CostOf, emptyResult, cheaper, tryOne, tryEach}
 use Rattle.search.specs.Diamond.{diamond}
 use Rattle.search.specs.MultiHexagon.{multiHexagon}
 use Rattle.search.specs.Full.{refine}
-use Rattle.grid.specs.declared.cells.MEStats.{MEStats}
-use Rattle.grid.specs.Grid.{Grid, cellAt, storedAt}
-use Rattle.grid.specs.Previous.{Previous}
+use Rattle.sampled.specs.Slots.{slots}
 use Rattle.predict.specs.declared.predictors.MotionEstimationSubsets.{MotionEstimationSubsets}
-use Rattle.predict.specs.Slots.{slots}
 use Rattle.predict.specs.Predictors.{subsetsOf}
 use Rattle.estimate.specs.Inputs.{Inputs}
 

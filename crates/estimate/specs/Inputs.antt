@@ -1,6 +1,8 @@
 -- What a block, a step and a level work with besides the grid.
+use mathlib.Core.Bool.{cond}
 use mathlib.Core.List.{List}
 use Prim.Native.Nat.{ℕ, _*_, _≤_}
+use lib.Dec.{eqb}
 use lib.ListN.{length}
 use Rattle.motion.specs.Frame.{Side}
 use Rattle.motion.specs.Level.{levelOf}
@@ -18,6 +20,19 @@ pub record Inputs : Type 0 where
 abbrev pub inputsOf : ℕ → ℕ → ℕ → List ℕ → List ℕ → ℕ → Inputs
 inputsOf width height level cur ref weight =
     record { width = width; height = height; level = level; cur = cur; ref = ref; weight = weight }
+
+-- six planes are lent: current and reference at full, half and quarter size
+pub record Planes : Type 0 where
+  pub full : List ℕ
+  pub half : List ℕ
+  pub quarter : List ℕ
+
+abbrev pub planesOf : List ℕ → List ℕ → List ℕ → Planes
+planesOf full half quarter = record { full = full; half = half; quarter = quarter }
+
+-- the plane of a level
+unfoldable pub planeAt : Planes → ℕ → List ℕ
+planeAt p level = cond (eqb level 4) (p .quarter) (cond (eqb level 3) (p .half) (p .full))
 
 -- the levels
 pub data Leveled : ℕ → Type 0 where

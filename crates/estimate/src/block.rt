@@ -22,13 +22,13 @@ ghost use Rattle.motion.specs.Vector.{zeroV, FitsV, shlV};
 ghost use Rattle.motion.specs.Range.{inRange};
 ghost use Rattle.motion.specs.Level.{levelOf};
 ghost use Rattle.motion.specs.Frame.{Side, Starts};
+ghost use Rattle.grid.specs.Grid.{Held, cells, cellAt, gridOf};
+ghost use Rattle.grid.specs.Previous.{HeldIf, previousOf};
 ghost use Rattle.sad.specs.Plane.{Lies};
 ghost use Rattle.sad.specs.Cost.{rdAt};
 ghost use Rattle.points.specs.Window.{windowOk};
 ghost use Rattle.search.specs.Result.{tryOne};
-ghost use Rattle.grid.specs.Grid.{Held, cells, cellAt, gridOf};
-ghost use Rattle.grid.specs.Previous.{HeldIf, previousOf};
-ghost use Rattle.predict.specs.Slots.{slots};
+ghost use Rattle.sampled.specs.Slots.{slots};
 ghost use Rattle.estimate.specs.Inputs.{Ready, Leveled, inputsOf};
 ghost use Rattle.estimate.specs.Block.{Listed, Honest, tryMvs, shortSearch, tryCands, extensiveSearch, fullPixelMe, statsOf, estimateMotion, firstStored, windowAt, refineMotion};
 

@@ -8,9 +8,9 @@ use lib.Seq.{take-suc}
 use Rattle.grid.specs.Grid.{Grid, Held}
 use Rattle.grid.specs.Previous.{Previous}
 use Rattle.estimate.specs.Inputs.{Inputs}
-use Rattle.frame.specs.Step.{step}
+use Rattle.superblock.specs.Step.{step}
+use Rattle.superblock.proofs.StepLaws.{AsLong, long-none, long-more, held-long, step-long}
 use Rattle.frame.specs.Run.{levelRun}
-use Rattle.frame.proofs.StepLaws.{AsLong, long-none, long-more, held-long, step-long}
 
 module _ (i : Inputs) (p : Previous) where
   pub run-none : (g : Grid) → levelRun i p [] g ≡ g

@@ -1,3 +1,2 @@
--- What a reader must believe of a superblock step and of a frame run.
-pub mod Step
+-- What a reader must believe of a frame run.
 pub mod Run

@@ -1,25 +1,10 @@
 -- A run: levels 4, 3, 2; in each, every superblock in list order.
 use Prim.Native.Nat.{ℕ}
-use mathlib.Core.Bool.{cond}
 use mathlib.Core.List.{List, [], _∷_}
-use lib.Dec.{eqb}
 use Rattle.grid.specs.Grid.{Grid}
 use Rattle.grid.specs.Previous.{Previous}
-use Rattle.estimate.specs.Inputs.{Inputs, inputsOf}
-use Rattle.frame.specs.Step.{step}
-
--- six planes are lent: current and reference at full, half and quarter size
-pub record Planes : Type 0 where
-  pub full : List ℕ
-  pub half : List ℕ
-  pub quarter : List ℕ
-
-abbrev pub planesOf : List ℕ → List ℕ → List ℕ → Planes
-planesOf full half quarter = record { full = full; half = half; quarter = quarter }
-
--- the plane of a level
-unfoldable pub planeAt : Planes → ℕ → List ℕ
-planeAt p level = cond (eqb level 4) (p .quarter) (cond (eqb level 3) (p .half) (p .full))
+use Rattle.estimate.specs.Inputs.{Inputs, inputsOf, Planes, planeAt}
+use Rattle.superblock.specs.Step.{step}
 
 -- steps at one level, in list order
 unfoldable pub levelRun : Inputs → Previous → List ℕ → Grid → Grid

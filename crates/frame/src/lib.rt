@@ -1,3 +1,2 @@
-// A superblock step and a frame run.
+// A frame run: superblock steps over a list.
 pub mod run;
-pub mod step;

@@ -1,4 +1,4 @@
-use crate::step::superblock_step;
+use superblock::step::superblock_step;
 ghost use mathlib.Core.Path.{_≡_};
 ghost use Prim.Native.Nat.{ℕ, _<_};
 ghost use lib.ListN.{length, getD};
@@ -6,8 +6,8 @@ ghost use Rattle.motion.specs.Frame.{Side};
 ghost use Rattle.motion.specs.Superblock.{superblocks};
 ghost use Rattle.grid.specs.Grid.{Held, gridOf};
 ghost use Rattle.grid.specs.Previous.{HeldIf, previousOf};
-ghost use Rattle.estimate.specs.Inputs.{Ready, PlaneHeld, inputsOf};
-ghost use Rattle.frame.specs.Run.{planesOf, levelRun, frameRun};
+ghost use Rattle.estimate.specs.Inputs.{Ready, PlaneHeld, inputsOf, planesOf};
+ghost use Rattle.frame.specs.Run.{levelRun, frameRun};
 
 // Every superblock of a list at one level, in list order.
 fn level_run(

@@ -1,3 +1,2 @@
--- What a reader must believe of the entry points on a frame: their refusals and their answers.
-pub mod Steps
+-- What a reader must believe of the entry point on a frame: its refusals and its answer.
 pub mod Runs

@@ -8,7 +8,8 @@ use Rattle.motion.specs.Superblock.{superblocksAlong}
 use Rattle.grid.specs.Grid.{Grid}
 use Rattle.grid.specs.Previous.{previous}
 use Rattle.refusal.specs.Tests.{refuse, _then_, sideOk, planesRefusal, gridsHold}
-use Rattle.frame.specs.Run.{Planes, planeAt, frameRun}
+use Rattle.estimate.specs.Inputs.{Planes, planeAt}
+use Rattle.frame.specs.Run.{frameRun}
 use Rattle.order.specs.List.{listRefusal}
 
 -- 4: the two planes of a level

@@ -6,7 +6,7 @@ use refusal::tests::planes_refusal;
 use refusal::tests::side_ok;
 ghost use mathlib.Core.Path.{_≡_};
 ghost use Rattle.grid.specs.Grid.{gridOf};
-ghost use Rattle.frame.specs.Run.{planesOf};
+ghost use Rattle.estimate.specs.Inputs.{planesOf};
 ghost use Rattle.inter.specs.Runs.{runTests, runRefusal, runGrid};
 
 // The tests of numbers 1, 4 and 5, in their order.

@@ -1,8 +1,4 @@
 -- Laws that several proofs and other crates cite.
-pub mod SlotLaws
-pub mod SampledLaws
-pub mod InsideLaws
-pub mod HeldCells
 pub mod LeastLaws
 pub mod PredictorLaws
 pub mod AreaLaws

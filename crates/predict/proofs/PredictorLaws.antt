@@ -9,9 +9,9 @@ use lib.Seq.{length-take-le, take-suc}
 use Rattle.motion.specs.declared.range.MvRange.{MvRange}
 use Rattle.motion.specs.Vector.{zeroV}
 use Rattle.grid.specs.Grid.{Grid, statsAt}
-use Rattle.predict.specs.Slots.{slots, slotted}
+use Rattle.sampled.specs.Slots.{slots, slotted}
+use Rattle.sampled.proofs.SlotLaws.{slots-next}
 use Rattle.predict.specs.Predictors.{predictor, predictorsAt}
-use Rattle.predict.proofs.SlotLaws.{slots-next}
 
 module _ (r : MvRange) (s : ℕ) (g : Grid) where
   pub predictors-count : (is : List ℕ) → length (predictorsAt r s g is) ≡ length is

@@ -10,13 +10,13 @@ use Rattle.motion.specs.Vector.{zeroV}
 use Rattle.motion.specs.Level.{levelOf}
 use Rattle.motion.specs.Block.{blockOf}
 use Rattle.grid.specs.Grid.{Grid}
+use Rattle.sampled.specs.Slots.{slots}
+use Rattle.sampled.specs.Sampled.{cellsB, cellsC}
+use Rattle.sampled.proofs.SampledLaws.{b-few, c-few}
+use Rattle.sampled.proofs.SlotLaws.{slots-all, slots-read}
 use Rattle.predict.specs.declared.predictors.MotionEstimationSubsets.{MotionEstimationSubsets}
-use Rattle.predict.specs.Slots.{slots}
-use Rattle.predict.specs.Sampled.{cellsB, cellsC}
 use Rattle.predict.specs.Predictors.{predictorsAt, subsetsOf}
-use Rattle.predict.proofs.SampledLaws.{b-few, c-few}
 use Rattle.predict.proofs.PredictorLaws.{predictors-count}
-use Rattle.predict.proofs.SlotLaws.{slots-all, slots-read}
 
 -- B and C fit their arrays, and B holds the zero vector
 pub record Sound (p : MotionEstimationSubsets) : Type 0 where

@@ -1,4 +1,2 @@
--- What a reader must believe of the cells that are sampled and of the predictors.
-pub mod Slots
-pub mod Sampled
+-- What a reader must believe of the predictors.
 pub mod Predictors

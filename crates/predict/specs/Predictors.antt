@@ -11,10 +11,10 @@ use Rattle.motion.specs.Vector.{zeroV, shrV, fullpelV}
 use Rattle.motion.specs.Level.{levelOf}
 use Rattle.motion.specs.Block.{blockOf}
 use Rattle.grid.specs.Grid.{Grid, statsAt}
+use Rattle.sampled.specs.Slots.{slotted}
+use Rattle.sampled.specs.Sampled.{cellsB, cellsC, cellsCentre}
 use Rattle.predict.specs.declared.predictors.Subset.{Subset}
 use Rattle.predict.specs.declared.predictors.MotionEstimationSubsets.{MotionEstimationSubsets}
-use Rattle.predict.specs.Slots.{slotted}
-use Rattle.predict.specs.Sampled.{cellsB, cellsC, cellsCentre}
 
 -- clamped between two ends
 unfoldable pub clampTo : ℤ → ℤ → ℤ → ℤ

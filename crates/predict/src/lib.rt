@@ -1,3 +1,2 @@
-// The cells of a grid that a block samples, and the predictors that it takes from them.
+// The predictors that a block takes from the cells of a grid.
 pub mod predictors;
-pub mod sampled;

@@ -1,13 +1,13 @@
-use crate::sampled::Cells;
-use crate::sampled::cells_b;
-use crate::sampled::cells_c;
-use crate::sampled::centre_cell;
 use grid::cells::MEStats;
 use grid::cells::stats_at;
 use motion::block::block_of;
 use motion::level::level_of;
 use motion::range::MvRange;
 use motion::vector::MotionVector;
+use sampled::cells::Cells;
+use sampled::cells::cells_b;
+use sampled::cells::cells_c;
+use sampled::cells::centre_cell;
 ghost use mathlib.Core.Path.{_≡_};
 ghost use mathlib.Core.Bool.{true};
 ghost use Prim.Native.Nat.{ℕ, _≤_, _<_, _^_, min};
@@ -16,8 +16,8 @@ ghost use Rattle.motion.specs.Vector.{zeroV};
 ghost use Rattle.motion.specs.Level.{levelOf};
 ghost use Rattle.motion.specs.Frame.{Placed};
 ghost use Rattle.grid.specs.Grid.{Held, gridOf};
-ghost use Rattle.predict.specs.Slots.{slots};
-ghost use Rattle.predict.specs.Sampled.{taken};
+ghost use Rattle.sampled.specs.Slots.{slots};
+ghost use Rattle.sampled.specs.Sampled.{taken};
 ghost use Rattle.predict.specs.Predictors.{clampTo, predictor, predictorsAt, sadsAt, leastOf, minimumSad, stopThreshold, subsetOf, subsetsOf};
 
 // The predictors that some cells give, at most five, and the least SAD among the cells.

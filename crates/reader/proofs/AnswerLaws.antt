@@ -10,10 +10,10 @@ use Rattle.grid.specs.Grid.{Grid, room}
 use Rattle.refusal.specs.Tests.{refuse}
 use Rattle.refusal.proofs.RefusalLaws.{then-later}
 use Rattle.gridfile.specs.Reading.{State, refusedAt, taken, kept, whole, ended}
-use Rattle.reader.specs.declared.reader.Reader.{Reader}
-use Rattle.reader.specs.Held.{plain, readerOf, stateOf, Settled}
+use Rattle.held.specs.declared.reader.Reader.{Reader}
+use Rattle.held.specs.Held.{plain, readerOf, stateOf, Settled}
+use Rattle.held.proofs.HeldLaws.{back, settled-back, sound-of}
 use Rattle.reader.specs.Calls.{Fits, tooShort, takenFrom, keptFrom, endedFrom, takeReader, takeGrid, endReader}
-use Rattle.reader.proofs.HeldLaws.{back, settled-back, sound-of}
 use Rattle.reader.proofs.CallLaws.{fits-takes, fits-keeps, refused-takes, refused-leaves, refused-end}
 
 -- a cell that is still to come is one of the header's

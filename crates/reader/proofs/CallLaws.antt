@@ -15,8 +15,8 @@ use Rattle.records.specs.Numbers.{OfBytes}
 use Rattle.gridfile.specs.Reading.{State, refusedAt, begun, headerEnd, headerDone, cellDone, next, taken, kept, ended}
 use Rattle.gridfile.proofs.TakenLaws.{taken-append, kept-append, refused-stays, refused-keeps}
 use Rattle.gridfile.proofs.KeptLaws.{same-room, kept-lengths}
+use Rattle.held.proofs.HeldLaws.{Sound, sound-refused, with-part, by-test, next-by, bytes-taken, sound-taken}
 use Rattle.reader.specs.Calls.{Fits, tooShort, takenFrom, keptFrom, endedFrom}
-use Rattle.reader.proofs.HeldLaws.{Sound, sound-refused, with-part, by-test, next-by, bytes-taken, sound-taken}
 
 -- each byte keeps a grid that fits: the header's end refuses any other with 13
 pub fits-next : (space : ℕ) (s : State) (byte : ℕ) → Fits space s → Fits space (next space s byte)

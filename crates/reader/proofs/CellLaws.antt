@@ -17,8 +17,8 @@ use Rattle.records.specs.Numbers.{OfBytes}
 use Rattle.gridfile.specs.Reading.{State, start, refusedAt, begun, headerEnd, headerDone, cellDone, next, taken, keep, kept}
 use Rattle.gridfile.proofs.PlaceLaws.{next-place}
 use Rattle.gridfile.proofs.KeptLaws.{same-room, cell-here, cell-other, kept-lengths}
+use Rattle.held.proofs.HeldLaws.{header-next, cell-next, Sound, next-by, bytes-next, sound-next}
 use Rattle.reader.specs.Calls.{Fits}
-use Rattle.reader.proofs.HeldLaws.{header-next, cell-next, Sound, next-by, bytes-next, sound-next}
 use Rattle.reader.proofs.CallLaws.{fits-next}
 
 -- where reading stands after a file's front: the record begun is its end, and the cells taken in hold their records

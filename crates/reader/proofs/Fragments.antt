@@ -9,11 +9,11 @@ use Rattle.records.proofs.NumberLaws.{bytes-front, bytes-back}
 use Rattle.gridfile.specs.Reading.{State, start, taken, kept, readRefusal, shapeOf, readAnswer}
 use Rattle.gridfile.proofs.KeptLaws.{kept-past}
 use Rattle.gridfile.proofs.FileLaws.{read-grid}
-use Rattle.reader.specs.declared.reader.Reader.{Reader}
-use Rattle.reader.specs.Held.{readerOf, stateOf}
+use Rattle.held.specs.declared.reader.Reader.{Reader}
+use Rattle.held.specs.Held.{readerOf, stateOf}
+use Rattle.held.proofs.HeldLaws.{Sound, sound-start, refused-back, back, sound-of, bytes-of, sound-taken}
 use Rattle.reader.specs.Calls.{Fits, takenFrom, keptFrom, endedFrom, newReader, takeReader, takeGrid, endReader}
 use Rattle.reader.specs.Fragments.{takeAll, gridAll, joined, AnyCuts, Stays, RefusalStays, AsOne, GoodOnes, WholeFile}
-use Rattle.reader.proofs.HeldLaws.{Sound, sound-start, refused-back, back, sound-of, bytes-of, sound-taken}
 use Rattle.reader.proofs.CallLaws.{fits-takes, fits-keeps, refused-takes, refused-leaves, takes-on, keeps-on, empty-from, bytes-from, sound-from, refused-end, empty-end, end-number, end-columns, end-rows}
 use Rattle.reader.proofs.CellLaws.{read-start, read-there, read-taken}
 

@@ -10,11 +10,11 @@ use Rattle.grid.specs.Grid.{Grid, withCell}
 use Rattle.records.specs.Records.{cellBytes, cellOf}
 use Rattle.gridfile.specs.Reading.{State, refusedAt, begun, headerDone, headerEnd, cellDone, next, keep}
 use Rattle.gridfile.proofs.TakenLaws.{past-mark, byte-last}
-use Rattle.reader.specs.declared.reader.Reader.{Reader}
-use Rattle.reader.specs.Held.{partBytes, stateOf}
-use Rattle.reader.proofs.HeldLaws.{some-bytes, next-by}
-use Rattle.reader.proofs.OpenLaws.{Open, number-stays}
-use Rattle.reader.proofs.ByteLaws.{bytes, held-state, cell-next}
+use Rattle.held.specs.declared.reader.Reader.{Reader}
+use Rattle.held.specs.Held.{partBytes, stateOf}
+use Rattle.held.proofs.HeldLaws.{some-bytes, next-by}
+use Rattle.held.proofs.OpenLaws.{Open, number-stays}
+use Rattle.held.proofs.ByteLaws.{bytes, held-state, cell-next}
 
 -- most bytes complete none
 module _ (space : ℕ) (s : State) (b : ℕ) (g : Grid) (none : s .code ≡ 0 → 0 < s .columns → s .cells < s .columns * s .rows → cellBytes ≤ suc (length (s .part)) → ⊥) where

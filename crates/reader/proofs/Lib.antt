@@ -1,7 +1,4 @@
 -- Laws that several proofs cite, and the theorems of specs/Fragments.antt.
-pub mod HeldLaws
-pub mod OpenLaws
-pub mod ByteLaws
 pub mod KeepLaws
 pub mod CallLaws
 pub mod TurnLaws

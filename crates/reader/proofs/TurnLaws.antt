@@ -12,11 +12,11 @@ use Rattle.records.proofs.NumberLaws.{bytes-front}
 use Rattle.gridfile.specs.Reading.{State, next, taken, keep, kept}
 use Rattle.gridfile.proofs.TakenLaws.{taken-append, kept-append, refused-stays, refused-keeps}
 use Rattle.gridfile.proofs.KeptLaws.{SameLengths, kept-lengths, same-room}
-use Rattle.reader.specs.declared.reader.Reader.{Reader}
-use Rattle.reader.specs.Held.{readerOf, stateOf, Settled}
+use Rattle.held.specs.declared.reader.Reader.{Reader}
+use Rattle.held.specs.Held.{readerOf, stateOf, Settled}
+use Rattle.held.proofs.HeldLaws.{Sound, back, settled-back, sound-of, bytes-of, sound-taken}
+use Rattle.held.proofs.OpenLaws.{number-stays}
 use Rattle.reader.specs.Calls.{Fits}
-use Rattle.reader.proofs.HeldLaws.{Sound, back, settled-back, sound-of, bytes-of, sound-taken}
-use Rattle.reader.proofs.OpenLaws.{number-stays}
 use Rattle.reader.proofs.CallLaws.{fits-taken}
 
 -- what a fragment is taken in with

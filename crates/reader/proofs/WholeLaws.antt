@@ -13,8 +13,8 @@ use Rattle.gridfile.specs.Reading.{State, between, taken, kept}
 use Rattle.gridfile.proofs.TakenLaws.{taken-append, kept-append, record-taken, record-kept}
 use Rattle.gridfile.proofs.MarkLaws.{markedAt, eight, eight-long, record-bytes}
 use Rattle.gridfile.proofs.KeptLaws.{SameLengths, kept-lengths, taken-free, kept-free}
-use Rattle.reader.specs.declared.reader.Reader.{Reader}
-use Rattle.reader.specs.Held.{readerOf}
+use Rattle.held.specs.declared.reader.Reader.{Reader}
+use Rattle.held.specs.Held.{readerOf}
 use Rattle.reader.proofs.TurnLaws.{Turned}
 
 -- the first i records have been taken in

@@ -6,8 +6,8 @@ use mathlib.Core.List.{List}
 use lib.Dec.{leb, eqb}
 use Rattle.grid.specs.Grid.{Grid, room}
 use Rattle.gridfile.specs.Reading.{State, start, refusedAt, taken, kept, ended}
-use Rattle.reader.specs.declared.reader.Reader.{Reader}
-use Rattle.reader.specs.Held.{readerOf, stateOf}
+use Rattle.held.specs.declared.reader.Reader.{Reader}
+use Rattle.held.specs.Held.{readerOf, stateOf}
 
 -- a grid long enough for what the header said
 abbrev pub Fits : ℕ → State → Type 0

@@ -1,9 +1,9 @@
 use crate::fragment::take_fragment;
-use crate::reader::Reader;
-use crate::reader::between;
-use crate::reader::count_of;
-use crate::reader::settled;
 use grid::cells::room;
+use held::reader::Reader;
+use held::reader::between;
+use held::reader::count_of;
+use held::reader::settled;
 ghost use mathlib.Core.Path.{_≡_};
 ghost use Rattle.grid.specs.Grid.{gridOf};
 ghost use Rattle.reader.specs.Calls.{newReader, takeReader, takeGrid, endReader};

@@ -1,11 +1,11 @@
-use crate::bytes::next_byte;
-use crate::reader::Reader;
-use crate::reader::at_a_cell;
-use crate::reader::between;
-use crate::reader::count_of;
-use crate::reader::missing;
 use grid::cells::least;
 use grid::cells::save_cell;
+use held::bytes::next_byte;
+use held::reader::Reader;
+use held::reader::at_a_cell;
+use held::reader::between;
+use held::reader::count_of;
+use held::reader::missing;
 use records::numbers::get_16;
 use records::parts::get_cell;
 ghost use mathlib.Core.Path.{_≡_};
@@ -14,7 +14,7 @@ ghost use lib.ListN.{length, take};
 ghost use Rattle.grid.specs.Grid.{gridOf, room};
 ghost use Rattle.records.specs.Records.{cellBytes};
 ghost use Rattle.gridfile.specs.Reading.{between, taken, keep, kept};
-ghost use Rattle.reader.specs.Held.{mostCells, readerOf, stateOf, Settled};
+ghost use Rattle.held.specs.Held.{mostCells, readerOf, stateOf, Settled};
 ghost use Rattle.reader.specs.Calls.{Fits};
 
 // The cell that a byte completes goes to the grid.

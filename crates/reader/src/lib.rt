@@ -1,5 +1,3 @@
-// A grid file that comes in fragments: the state between two of them, and a fragment taken in.
-pub mod bytes;
+// A grid file that comes in fragments: a fragment taken in, and the entry points.
 pub mod calls;
 pub mod fragment;
-pub mod reader;

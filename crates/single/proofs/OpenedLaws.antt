@@ -3,10 +3,10 @@ use mathlib.Core.Path.{_≡_}
 use Prim.Native.Nat.{ℕ}
 use Rattle.motion.specs.Level.{levelOf}
 use Rattle.motion.specs.Frame.{Placed}
-use Rattle.sad.specs.Plane.{Lies}
-use Rattle.sad.proofs.Contained.{lies}
 use Rattle.refusal.specs.Tests.{sizeOf, blockRefusal, planesRefusal, callRefusal}
 use Rattle.refusal.proofs.RefusalLaws.{none-of, accepted, lent}
+use Rattle.sad.specs.Plane.{Lies}
+use Rattle.sad.proofs.Contained.{lies}
 use Rattle.single.specs.Call.{blockAt}
 
 pub record Opened (width height level refined bx by n m : ℕ) : Type 0 where

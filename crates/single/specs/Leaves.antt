@@ -7,8 +7,8 @@ use lib.IntN.{pos}
 use lib.ListN.{length}
 use Rattle.motion.specs.declared.vector.MotionVector.{MotionVector}
 use Rattle.motion.specs.declared.range.MvRange.{MvRange}
-use Rattle.sad.specs.Cost.{rdAt}
 use Rattle.refusal.specs.Tests.{blockRefusal, callRefusal}
+use Rattle.sad.specs.Cost.{rdAt}
 use Rattle.single.specs.declared.found.Found.{Found}
 use Rattle.single.specs.declared.leaves.Range.{Range}
 use Rattle.single.specs.Found.{foundOf, answer}

@@ -6,10 +6,10 @@ use lib.Dec.{eqb}
 use Rattle.motion.specs.Vector.{zeroV}
 use Rattle.grid.specs.Grid.{Grid}
 use Rattle.grid.specs.Previous.{previous}
-use Rattle.predict.specs.declared.predictors.MotionEstimationSubsets.{MotionEstimationSubsets}
-use Rattle.predict.specs.Slots.{slotted}
-use Rattle.predict.specs.Predictors.{subsetsOf}
 use Rattle.refusal.specs.Tests.{refuse, _then_, blockRefusal, gridsHold}
+use Rattle.sampled.specs.Slots.{slotted}
+use Rattle.predict.specs.declared.predictors.MotionEstimationSubsets.{MotionEstimationSubsets}
+use Rattle.predict.specs.Predictors.{subsetsOf}
 use Rattle.single.specs.declared.predicting.Predictors.{Predictors}
 
 -- numbers 1 to 3, then 5

@@ -7,7 +7,7 @@ ghost use Rattle.refusal.specs.Tests.{blockRefusal};
 ghost use Rattle.single.specs.Call.{blockAt};
 
 // The block of a call that numbers 1 to 3 do not refuse.
-pub(crate) fn block_at(
+pub fn block_at(
     width: usize,
     height: usize,
     level: usize,

@@ -20,13 +20,13 @@ use Rattle.grid.specs.Previous.{Previous}
 use Rattle.grid.specs.Save.{saveBlock}
 use Rattle.grid.proofs.CellLaws.{cell-inside}
 use Rattle.grid.proofs.SaveLaws.{true-up-to, covers-at}
-use Rattle.predict.specs.Sampled.{cellsAlong, taken, neighbours, oddBlock, cellsB, cellsCentre}
-use Rattle.estimate.specs.Inputs.{three, two, inputsOf}
+use Rattle.sampled.specs.Sampled.{cellsAlong, taken, neighbours, oddBlock, cellsB, cellsCentre}
+use Rattle.estimate.specs.Inputs.{three, two, inputsOf, Planes, planeAt}
 use Rattle.estimate.specs.Block.{estimateMotion}
-use Rattle.frame.specs.Step.{blocksAlong, blockCount, blockX, blockY, worked, refinedCount, windowsOk, refinements, estimates, step}
-use Rattle.frame.specs.Run.{Planes, planeAt, levelRun, inputsAt, frameRun}
-use Rattle.frame.proofs.GeometryLaws.{column-begins, row-begins}
-use Rattle.frame.proofs.StepLaws.{held-step}
+use Rattle.superblock.specs.Step.{blocksAlong, blockCount, blockX, blockY, worked, refinedCount, windowsOk, refinements, estimates, step}
+use Rattle.superblock.proofs.GeometryLaws.{column-begins, row-begins}
+use Rattle.superblock.proofs.StepLaws.{held-step}
+use Rattle.frame.specs.Run.{levelRun, inputsAt, frameRun}
 use Rattle.frame.proofs.RunLaws.{run-last}
 use Rattle.order.specs.List.{raster}
 use Rattle.order.proofs.EdgeLaws.{some-of}

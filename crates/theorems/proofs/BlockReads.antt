@@ -10,14 +10,14 @@ use Rattle.motion.specs.declared.vector.MotionVector.{MotionVector}
 use Rattle.motion.specs.Vector.{zeroV}
 use Rattle.motion.specs.Level.{levelOf}
 use Rattle.motion.specs.Block.{blockOf}
-use Rattle.points.specs.Window.{refineWindow}
-use Rattle.search.specs.Full.{refine}
 use Rattle.grid.specs.declared.cells.MEStats.{MEStats}
 use Rattle.grid.specs.Grid.{Grid, cellAt, statsAt}
 use Rattle.grid.specs.Previous.{Previous}
+use Rattle.points.specs.Window.{refineWindow}
+use Rattle.search.specs.Full.{refine}
+use Rattle.sampled.specs.Slots.{slotted}
+use Rattle.sampled.specs.Sampled.{cellsB, cellsC, cellsCentre}
 use Rattle.predict.specs.declared.predictors.MotionEstimationSubsets.{MotionEstimationSubsets}
-use Rattle.predict.specs.Slots.{slotted}
-use Rattle.predict.specs.Sampled.{cellsB, cellsC, cellsCentre}
 use Rattle.predict.specs.Predictors.{predictor, predictorsAt, sadsAt, leastOf, minimumSad, stopThreshold, subsetsOf}
 use Rattle.estimate.specs.Inputs.{Inputs}
 use Rattle.estimate.specs.Block.{blockIn, costIn, fullPixelMe, statsOf, estimateMotion, firstStored, windowAt, refineMotion}

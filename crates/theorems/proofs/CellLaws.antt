@@ -14,8 +14,8 @@ use Rattle.motion.proofs.TestLaws.{both}
 use Rattle.grid.specs.Grid.{cells}
 use Rattle.grid.specs.Save.{upTo, covers}
 use Rattle.grid.proofs.SaveLaws.{up-to-true, true-up-to}
-use Rattle.frame.specs.Step.{blocksAlong, blockCount, blockX, blockY}
-use Rattle.frame.proofs.GeometryLaws.{Tabled, sixteen, thirty-two, sixty-four, across-some}
+use Rattle.superblock.specs.Step.{blocksAlong, blockCount, blockX, blockY}
+use Rattle.superblock.proofs.GeometryLaws.{Tabled, sixteen, thirty-two, sixty-four, across-some}
 use Rattle.theorems.specs.Cells.{ownCell}
 
 -- a superblock's side in cells

@@ -12,8 +12,8 @@ use Rattle.grid.specs.declared.cells.MEStats.{MEStats}
 use Rattle.grid.specs.Grid.{Grid, storedAt, statsAt}
 use Rattle.grid.specs.Previous.{Previous}
 use Rattle.estimate.specs.Inputs.{Inputs}
-use Rattle.frame.specs.Step.{step}
-use Rattle.frame.proofs.StepLaws.{AsLong, long-more, step-long}
+use Rattle.superblock.specs.Step.{step}
+use Rattle.superblock.proofs.StepLaws.{AsLong, long-more, step-long}
 use Rattle.order.specs.List.{sharesEdge}
 use Rattle.theorems.specs.Cells.{ownCell, beside, NearCell, AgreeOn}
 use Rattle.theorems.proofs.CellLaws.{own-once}

@@ -16,21 +16,21 @@ use Rattle.motion.specs.Frame.{Side, Starts}
 use Rattle.motion.specs.Range.{inRange}
 use Rattle.motion.specs.Block.{blockOf}
 use Rattle.motion.specs.Superblock.{superblocks, superblockX, superblockY}
-use Rattle.sad.proofs.Sums.{Under}
 use Rattle.grid.specs.declared.cells.MEStats.{MEStats}
 use Rattle.grid.specs.Grid.{Grid, Held, cellAt, statsAt}
 use Rattle.grid.specs.Previous.{Previous}
 use Rattle.grid.specs.Save.{upTo, covers, saveBlock}
 use Rattle.grid.proofs.CellLaws.{cell-inside}
 use Rattle.grid.proofs.SaveLaws.{true-up-to, covers-at, read-outside, read-inside}
+use Rattle.sad.proofs.Sums.{Under}
 use Rattle.predict.specs.Predictors.{subsetsOf}
 use Rattle.predict.proofs.SubsetLaws.{subsets-sound}
 use Rattle.estimate.specs.Inputs.{Inputs, Ready}
 use Rattle.estimate.specs.Block.{blockIn, costIn, fullPixelMe, statsOf, estimateMotion}
 use Rattle.estimate.proofs.BlockFacts.{own-sized, block-lies, block-zero, fullPixelMe-settled}
-use Rattle.frame.specs.Step.{blocksAlong, blockCount, blockX, blockY, worked, estimates}
-use Rattle.frame.proofs.GeometryLaws.{Tabled, sixteen, thirty-two, sixty-four, own-tabled, across-some, placed}
-use Rattle.frame.proofs.StepLaws.{held-worked}
+use Rattle.superblock.specs.Step.{blocksAlong, blockCount, blockX, blockY, worked, estimates}
+use Rattle.superblock.proofs.GeometryLaws.{Tabled, sixteen, thirty-two, sixty-four, own-tabled, across-some, placed}
+use Rattle.superblock.proofs.StepLaws.{held-worked}
 
 -- a vector in range of the block of a level's own size, shifted left by the level's shift
 pub record Stored (width height level bx by : ℕ) (mv : MotionVector) : Type 0 where

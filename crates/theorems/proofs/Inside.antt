@@ -12,21 +12,21 @@ use Rattle.motion.specs.Level.{levelOf}
 use Rattle.motion.specs.Superblock.{superblocks}
 use Rattle.motion.proofs.TestLaws.{tested}
 use Rattle.motion.proofs.EveryLaws.{below-same}
-use Rattle.points.specs.Window.{windowOk}
 use Rattle.grid.specs.declared.cells.MEStats.{MEStats}
 use Rattle.grid.specs.Grid.{Grid, Held, cells, cellAt, statsAt}
 use Rattle.grid.specs.Previous.{Previous}
 use Rattle.grid.specs.Save.{covers, saveBlock}
 use Rattle.grid.proofs.CellLaws.{cell-inside}
 use Rattle.grid.proofs.SaveLaws.{held-block, block-inside, block-outside}
-use Rattle.predict.proofs.InsideLaws.{b-inside, centre-inside}
+use Rattle.points.specs.Window.{windowOk}
+use Rattle.sampled.proofs.InsideLaws.{b-inside, centre-inside}
 use Rattle.estimate.specs.Inputs.{Inputs, Leveled}
 use Rattle.estimate.specs.Block.{estimateMotion, refineMotion}
 use Rattle.estimate.proofs.BlockFacts.{own-sized}
-use Rattle.frame.specs.Step.{blockCount, blockX, blockY, worked, refinedCount, windowsOk, refinements, estimates, step}
+use Rattle.superblock.specs.Step.{blockCount, blockX, blockY, worked, refinedCount, windowsOk, refinements, estimates, step}
+use Rattle.superblock.proofs.GeometryLaws.{own-tabled, refined-tabled, placed}
+use Rattle.superblock.proofs.StepLaws.{refined-below}
 use Rattle.frame.specs.Run.{levelRun}
-use Rattle.frame.proofs.GeometryLaws.{own-tabled, refined-tabled, placed}
-use Rattle.frame.proofs.StepLaws.{refined-below}
 use Rattle.theorems.specs.Cells.{AgreeOn}
 use Rattle.theorems.proofs.BlockReads.{estimate-reads, refine-reads, window-reads}
 

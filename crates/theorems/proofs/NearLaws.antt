@@ -16,10 +16,10 @@ use Rattle.motion.specs.Superblock.{superblocksAlong, superblocks, superblockX,
 use Rattle.motion.proofs.TestLaws.{both}
 use Rattle.grid.specs.Grid.{cellAt}
 use Rattle.grid.proofs.CellLaws.{cell-inside}
-use Rattle.predict.specs.Sampled.{cellsAlong, taken, neighbours, centreCell, cellsB, cellsCentre}
-use Rattle.predict.proofs.InsideLaws.{middle-inside}
-use Rattle.frame.specs.Step.{blockCount, blockX, blockY}
-use Rattle.frame.proofs.GeometryLaws.{Tabled, sixteen, thirty-two, sixty-four, own-tabled, placed}
+use Rattle.sampled.specs.Sampled.{cellsAlong, taken, neighbours, centreCell, cellsB, cellsCentre}
+use Rattle.sampled.proofs.InsideLaws.{middle-inside}
+use Rattle.superblock.specs.Step.{blockCount, blockX, blockY}
+use Rattle.superblock.proofs.GeometryLaws.{Tabled, sixteen, thirty-two, sixty-four, own-tabled, placed}
 use Rattle.order.specs.List.{sharesEdge}
 use Rattle.order.proofs.EdgeLaws.{beside-shares}
 use Rattle.theorems.specs.Cells.{beside, NearCell}

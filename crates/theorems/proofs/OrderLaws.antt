@@ -8,7 +8,7 @@ use Rattle.motion.specs.Superblock.{superblocksAlong, superblocks}
 use Rattle.grid.specs.Grid.{Grid}
 use Rattle.grid.specs.Previous.{Previous}
 use Rattle.estimate.specs.Inputs.{Inputs}
-use Rattle.frame.specs.Step.{step}
+use Rattle.superblock.specs.Step.{step}
 use Rattle.frame.specs.Run.{levelRun, inputsAt, frameRun}
 use Rattle.order.specs.List.{sharesEdge, raster}
 use Rattle.order.specs.Fold.{foldSteps}

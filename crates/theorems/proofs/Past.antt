@@ -14,7 +14,7 @@ use Rattle.grid.specs.Previous.{Previous}
 use Rattle.grid.specs.Save.{upTo, covers}
 use Rattle.grid.proofs.SaveLaws.{block-outside}
 use Rattle.estimate.specs.Inputs.{Inputs}
-use Rattle.frame.specs.Step.{blockX, blockY, worked, windowsOk, refinements, estimates, step}
+use Rattle.superblock.specs.Step.{blockX, blockY, worked, windowsOk, refinements, estimates, step}
 use Rattle.frame.specs.Run.{levelRun, inputsAt, frameRun}
 use Rattle.theorems.specs.Order.{PastStays}
 

@@ -14,16 +14,16 @@ use Rattle.grid.specs.Grid.{Grid}
 use Rattle.grid.specs.Previous.{previous}
 use Rattle.refusal.specs.Tests.{refuse, _then_, sideOk, levelOk, planesRefusal, gridOk, gridHolds, gridsHold}
 use Rattle.refusal.proofs.RefusalLaws.{first-passed, passes, none-of}
-use Rattle.estimate.specs.Inputs.{Inputs}
-use Rattle.frame.specs.Step.{windowsOk, step}
-use Rattle.frame.specs.Run.{Planes, planeAt, inputsAt, levelRun, frameRun}
-use Rattle.frame.proofs.StepLaws.{AsLong, long-more, step-long}
+use Rattle.estimate.specs.Inputs.{Inputs, Planes, planeAt}
+use Rattle.superblock.specs.Step.{windowsOk, step}
+use Rattle.superblock.proofs.StepLaws.{AsLong, long-more, step-long}
+use Rattle.frame.specs.Run.{inputsAt, levelRun, frameRun}
 use Rattle.frame.proofs.RunLaws.{run-long}
 use Rattle.order.specs.List.{listRefusal}
-use Rattle.inter.specs.Steps.{stepTests, stepRefusal, stepGrid}
+use Rattle.steps.specs.Steps.{stepTests, stepRefusal, stepGrid}
+use Rattle.steps.proofs.OutcomeLaws.{step-done}
 use Rattle.inter.specs.Runs.{lentRefusal, runTests, runRefusal, runGrid}
 use Rattle.inter.proofs.ReadyLaws.{list-inside}
-use Rattle.inter.proofs.OutcomeLaws.{step-done}
 use Rattle.theorems.specs.Order.{Windowed, stepCalls, AllZero, PublicStep}
 use Rattle.theorems.proofs.NoEight.{never-eight}
 

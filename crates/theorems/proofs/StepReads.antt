@@ -14,17 +14,17 @@ use Rattle.motion.specs.Frame.{Side}
 use Rattle.motion.specs.Superblock.{superblocks}
 use Rattle.motion.proofs.TestLaws.{tested, not-so}
 use Rattle.motion.proofs.EveryLaws.{below-same}
-use Rattle.points.specs.Window.{windowOk}
 use Rattle.grid.specs.declared.cells.MEStats.{MEStats}
 use Rattle.grid.specs.Grid.{Grid, cellAt, storedAt, statsAt}
 use Rattle.grid.specs.Previous.{Previous}
 use Rattle.grid.specs.Save.{replace, saveWhere, covers, saveBlock}
 use Rattle.grid.proofs.SaveLaws.{length-replace, getD-replace, block-outside}
+use Rattle.points.specs.Window.{windowOk}
 use Rattle.estimate.specs.Inputs.{Inputs}
 use Rattle.estimate.specs.Block.{estimateMotion, refineMotion}
-use Rattle.frame.specs.Step.{blockCount, blockX, blockY, worked, refinedCount, windowsOk, refinements, estimates, step}
-use Rattle.frame.proofs.GeometryLaws.{Tabled, own-tabled, refined-tabled}
-use Rattle.frame.proofs.StepLaws.{AsLong, long-more, worked-long, refined-below, refinements-long, step-refused, step-taken}
+use Rattle.superblock.specs.Step.{blockCount, blockX, blockY, worked, refinedCount, windowsOk, refinements, estimates, step}
+use Rattle.superblock.proofs.GeometryLaws.{Tabled, own-tabled, refined-tabled}
+use Rattle.superblock.proofs.StepLaws.{AsLong, long-more, worked-long, refined-below, refinements-long, step-refused, step-taken}
 use Rattle.theorems.specs.Cells.{ownCell, NearCell, AgreeOn}
 use Rattle.theorems.proofs.CellLaws.{block-own}
 use Rattle.theorems.proofs.BlockReads.{SameAt, estimate-reads, refine-reads, window-reads}

@@ -11,14 +11,14 @@ use Rattle.motion.specs.Frame.{Side, Starts}
 use Rattle.motion.specs.Block.{blockOf}
 use Rattle.motion.specs.Superblock.{superblocks}
 use Rattle.motion.proofs.EveryLaws.{below-of}
-use Rattle.points.specs.Window.{refineWindow, windowOk}
 use Rattle.grid.specs.declared.cells.MEStats.{MEStats}
 use Rattle.grid.specs.Grid.{Grid, Held, cellAt, statsAt}
 use Rattle.grid.specs.Previous.{Previous}
+use Rattle.points.specs.Window.{refineWindow, windowOk}
 use Rattle.estimate.specs.Inputs.{inputsOf}
 use Rattle.estimate.specs.Block.{firstStored, windowAt}
-use Rattle.frame.specs.Step.{blockCount, blockX, blockY, refinedCount, windowsOk, estimates}
-use Rattle.frame.proofs.GeometryLaws.{Tabled, thirty-two, sixty-four, placed}
+use Rattle.superblock.specs.Step.{blockCount, blockX, blockY, refinedCount, windowsOk, estimates}
+use Rattle.superblock.proofs.GeometryLaws.{Tabled, thirty-two, sixty-four, placed}
 use Rattle.theorems.proofs.WindowSome.{Refines, three-64, two-32, window-some}
 use Rattle.theorems.proofs.EstimateStored.{Stored, Bytes, estimates-stored}
 

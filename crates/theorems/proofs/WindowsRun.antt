@@ -15,11 +15,11 @@ use Rattle.grid.specs.Grid.{Grid, Held, cellAt, statsAt}
 use Rattle.grid.specs.Previous.{Previous}
 use Rattle.grid.specs.Save.{upTo}
 use Rattle.grid.proofs.SaveLaws.{up-to-true, covers-at}
-use Rattle.estimate.specs.Inputs.{Inputs, inputsOf}
-use Rattle.frame.specs.Step.{blocksAlong, blockCount, blockX, blockY, refinements, estimates, step}
-use Rattle.frame.specs.Run.{Planes, planeAt, levelRun, inputsAt}
-use Rattle.frame.proofs.GeometryLaws.{Tabled, sixteen, thirty-two, sixty-four, across-some, placed}
-use Rattle.frame.proofs.StepLaws.{held-long, step-taken, refinements-long}
+use Rattle.estimate.specs.Inputs.{Inputs, inputsOf, Planes, planeAt}
+use Rattle.superblock.specs.Step.{blocksAlong, blockCount, blockX, blockY, refinements, estimates, step}
+use Rattle.superblock.proofs.GeometryLaws.{Tabled, sixteen, thirty-two, sixty-four, across-some, placed}
+use Rattle.superblock.proofs.StepLaws.{held-long, step-taken, refinements-long}
+use Rattle.frame.specs.Run.{levelRun, inputsAt}
 use Rattle.frame.proofs.RunLaws.{held-run}
 use Rattle.order.specs.List.{times}
 use Rattle.order.proofs.TimesLaws.{times-here, times-append}

@@ -8,11 +8,11 @@ use Rattle.motion.specs.Frame.{Side}
 use Rattle.motion.specs.Superblock.{superblocksAlong, superblocks}
 use Rattle.grid.specs.Grid.{Grid, Held, cells, statsAt}
 use Rattle.grid.specs.Previous.{Previous, previous}
-use Rattle.estimate.specs.Inputs.{Inputs}
-use Rattle.frame.specs.Step.{windowsOk}
-use Rattle.frame.specs.Run.{Planes, planeAt, inputsAt, levelRun, frameRun}
+use Rattle.estimate.specs.Inputs.{Inputs, Planes, planeAt}
+use Rattle.superblock.specs.Step.{windowsOk}
+use Rattle.frame.specs.Run.{inputsAt, levelRun, frameRun}
 use Rattle.order.specs.List.{listRefusal, raster}
-use Rattle.inter.specs.Steps.{stepRefusal, stepGrid}
+use Rattle.steps.specs.Steps.{stepRefusal, stepGrid}
 use Rattle.inter.specs.Runs.{runRefusal, runGrid}
 
 -- a list that the test of 6 and 7 accepts

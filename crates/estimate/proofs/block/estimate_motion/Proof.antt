@@ -13,12 +13,12 @@ use Rattle.motion.specs.Range.{inRange}
 use Rattle.motion.specs.Level.{levelOf}
 use Rattle.motion.specs.Frame.{Sized}
 use Rattle.motion.specs.Block.{blockOf}
+use Rattle.grid.specs.Grid.{gridOf}
 use Rattle.sad.specs.Plane.{Lies}
 use Rattle.sad.specs.Cost.{rdAt}
 use Rattle.sad.proofs.Sums.{Under}
 use Rattle.search.specs.declared.result.MotionSearchResult.{MotionSearchResult}
 use Rattle.search.proofs.FoundLaws.{Settled}
-use Rattle.grid.specs.Grid.{gridOf}
 use Rattle.predict.specs.declared.predictors.MotionEstimationSubsets.{MotionEstimationSubsets}
 use Rattle.predict.specs.Predictors.{subsetsOf}
 use Rattle.predict.proofs.SubsetLaws.{Sound, subsets-sound}

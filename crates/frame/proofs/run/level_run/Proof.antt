@@ -11,9 +11,9 @@ use denote.Ref.{now}
 use Rattle.grid.specs.Grid.{Grid, gridOf}
 use Rattle.grid.specs.Previous.{Previous, previousOf}
 use Rattle.estimate.specs.Inputs.{Inputs, inputsOf}
-use Rattle.frame.specs.Step.{step}
+use Rattle.superblock.specs.Step.{step}
+use Rattle.superblock.proofs.StepLaws.{AsLong, held-long}
 use Rattle.frame.specs.Run.{levelRun}
-use Rattle.frame.proofs.StepLaws.{AsLong, held-long}
 use Rattle.frame.proofs.RunLaws.{run-none, run-more, run-long}
 use Rattle.frame.proofs.run.level_run.Statement.{statement}
 use Rattle.frame.proofs.run.level_run.Tie as tie

@@ -7,7 +7,7 @@ use denote.Ref.{now}
 use Rattle.motion.specs.Superblock.{superblocksAlong}
 use Rattle.grid.specs.Grid.{Grid, gridOf}
 use Rattle.grid.specs.Previous.{previous}
-use Rattle.frame.specs.Run.{Planes, planesOf, planeAt}
+use Rattle.estimate.specs.Inputs.{Planes, planesOf, planeAt}
 use Rattle.order.specs.List.{mostSuperblocks, listRefusal}
 use Rattle.inter.specs.Runs.{runTests}
 use Rattle.inter.proofs.ReadyLaws.{RunReady, run-ready, few-superblocks, list-inside}

@@ -10,7 +10,7 @@ use Rattle.motion.specs.Limits.{largestSide}
 use Rattle.motion.proofs.TestLaws.{passed, failed}
 use Rattle.refusal.specs.Tests.{refuse, _then_, sideOk, planesRefusal}
 use Rattle.refusal.proofs.RefusalLaws.{side-of, planes-short}
-use Rattle.frame.specs.Run.{planeAt}
+use Rattle.estimate.specs.Inputs.{planeAt}
 use Rattle.inter.specs.Runs.{lentRefusal, runTests}
 use Rattle.inter.proofs.runs.run_tests.Statement.{statement}
 use Rattle.inter.proofs.runs.run_tests.Tie as tie

@@ -7,7 +7,7 @@ use native.Mathlib.Omega.{arith}
 use denote.Ref.{now}
 use Rattle.grid.specs.declared.cells.MEStats.{MEStats}
 use Rattle.grid.specs.Grid.{gridOf, statsAt}
-use Rattle.predict.specs.Sampled.{taken}
+use Rattle.sampled.specs.Sampled.{taken}
 use Rattle.predict.specs.Predictors.{predictor, predictorsAt, sadsAt, leastOf}
 use Rattle.predict.proofs.predictors.centre_of.Statement.{statement}
 use Rattle.predict.proofs.predictors.centre_of.Tie as tie

@@ -20,19 +20,19 @@ use Rattle.motion.specs.Block.{blockOf}
 use Rattle.grid.specs.declared.cells.MEStats.{MEStats}
 use Rattle.grid.specs.Grid.{Grid, gridOf}
 use Rattle.grid.proofs.CellLaws.{reached}
-use Rattle.predict.specs.declared.sampled.Cells.{Cells}
+use Rattle.sampled.specs.declared.cells.Cells.{Cells}
+use Rattle.sampled.specs.Slots.{cellsOf}
+use Rattle.sampled.specs.Sampled.{taken, centreCell, cellsB, cellsC, cellsCentre}
+use Rattle.sampled.proofs.HeldCells.{reaches, reaches-c, held-list, held-asked}
+use Rattle.sampled.proofs.SampledLaws.{b-few, c-few}
+use Rattle.sampled.proofs.InsideLaws.{b-inside, middle-cell}
+use Rattle.sampled.proofs.SlotLaws.{slots-zero}
 use Rattle.predict.specs.declared.predictors.Subset.{Subset}
 use Rattle.predict.specs.declared.predictors.MotionEstimationSubsets.{MotionEstimationSubsets}
-use Rattle.predict.specs.Slots.{cellsOf}
-use Rattle.predict.specs.Sampled.{taken, centreCell, cellsB, cellsC, cellsCentre}
 use Rattle.predict.specs.Predictors.{predictorsAt, sadsAt, leastOf, minimumSad, stopThreshold, subsetOf, subsetsOf}
 use Rattle.predict.proofs.AreaLaws.{level-small, block-area, minimum-small}
-use Rattle.predict.proofs.HeldCells.{reaches, reaches-c, held-list, held-asked}
-use Rattle.predict.proofs.SampledLaws.{b-few, c-few}
-use Rattle.predict.proofs.InsideLaws.{b-inside, middle-cell}
 use Rattle.predict.proofs.LeastLaws.{least-both}
 use Rattle.predict.proofs.PredictorLaws.{predictors-count}
-use Rattle.predict.proofs.SlotLaws.{slots-zero}
 use Rattle.predict.proofs.predictors.get_subset_predictors.Statement.{statement}
 use Rattle.predict.proofs.predictors.get_subset_predictors.Tie as tie
 

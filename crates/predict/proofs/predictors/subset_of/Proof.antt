@@ -12,7 +12,7 @@ use Rattle.motion.specs.declared.vector.MotionVector.{MotionVector}
 use Rattle.motion.specs.Vector.{zeroV}
 use Rattle.grid.specs.declared.cells.MEStats.{MEStats}
 use Rattle.grid.specs.Grid.{gridOf, statsAt}
-use Rattle.predict.specs.Slots.{slotted}
+use Rattle.sampled.specs.Slots.{slotted}
 use Rattle.predict.specs.Predictors.{predictor, predictorsAt, sadsAt, leastOf, subsetOf}
 use Rattle.predict.proofs.PredictorLaws.{predictors-next}
 use Rattle.predict.proofs.LeastLaws.{least-next}

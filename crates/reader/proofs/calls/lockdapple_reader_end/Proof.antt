@@ -3,7 +3,7 @@
 use borrow.Author.Needs.{needs}
 use mathlib.Core.Path.{_∙_}
 use native.Mathlib.Omega.{arith}
-use Rattle.reader.proofs.OpenLaws.{Open, opened}
+use Rattle.held.proofs.OpenLaws.{Open, opened}
 use Rattle.reader.proofs.AnswerLaws.{first-settled, end-refused, end-before, end-within, end-whole}
 use Rattle.reader.proofs.calls.lockdapple_reader_end.Statement.{statement}
 use Rattle.reader.proofs.calls.lockdapple_reader_end.Tie as tie

@@ -8,10 +8,10 @@ use lib.ListN.{length}
 use denote.Ref.{now}
 use Rattle.grid.specs.Grid.{Grid, gridOf, room}
 use Rattle.gridfile.specs.Reading.{taken, kept}
-use Rattle.reader.specs.declared.reader.Reader.{Reader}
-use Rattle.reader.specs.Held.{readerOf, stateOf}
+use Rattle.held.specs.declared.reader.Reader.{Reader}
+use Rattle.held.specs.Held.{readerOf, stateOf}
+use Rattle.held.proofs.OpenLaws.{Open, opened}
 use Rattle.reader.specs.Calls.{Fits}
-use Rattle.reader.proofs.OpenLaws.{Open, opened}
 use Rattle.reader.proofs.AnswerLaws.{first-settled, take-refused, take-short, first-fits, take-done}
 use Rattle.reader.proofs.calls.lockdapple_reader_take.Statement.{statement}
 use Rattle.reader.proofs.calls.lockdapple_reader_take.Tie as tie

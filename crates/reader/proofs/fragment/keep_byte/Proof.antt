@@ -8,9 +8,9 @@ use denote.Ref.{now}
 use Rattle.grid.specs.declared.cells.MEStats.{MEStats}
 use Rattle.grid.specs.Grid.{Grid, gridOf, withCell, room}
 use Rattle.gridfile.specs.Reading.{begun}
-use Rattle.reader.specs.Held.{partBytes}
+use Rattle.held.specs.Held.{partBytes}
+use Rattle.held.proofs.OpenLaws.{Open, opened}
 use Rattle.reader.specs.Calls.{Fits}
-use Rattle.reader.proofs.OpenLaws.{Open, opened}
 use Rattle.reader.proofs.AnswerLaws.{some-columns}
 use Rattle.reader.proofs.KeepLaws.{keeps-refused, keeps-fewer, keeps-over, keeps-cell}
 use Rattle.reader.proofs.fragment.keep_byte.Statement.{statement}

@@ -9,7 +9,7 @@ use mir.Syntax.{w8}
 use mir.Val as val
 use Rattle.grid.specs.Grid.{gridOf}
 use Rattle.records.specs.Numbers.{OfBytes}
-use Rattle.reader.specs.Held.{stateOf}
+use Rattle.held.specs.Held.{stateOf}
 use Rattle.reader.specs.Calls.{Fits}
 use Rattle.reader.proofs.TurnLaws.{Begins, begins, Turned, turned-none, turned-all, turned-settled, turned-fits, turned-long, turned-room, turned-more, turned-refused}
 use Rattle.reader.proofs.fragment.take_bytes.Statement.{statement}

@@ -11,8 +11,8 @@ use mir.Val as val
 use Rattle.grid.specs.Grid.{Grid, gridOf}
 use Rattle.records.specs.Numbers.{OfBytes}
 use Rattle.gridfile.specs.Reading.{taken, kept}
-use Rattle.reader.specs.Held.{readerOf, stateOf}
-use Rattle.reader.proofs.OpenLaws.{opened}
+use Rattle.held.specs.Held.{readerOf, stateOf}
+use Rattle.held.proofs.OpenLaws.{opened}
 use Rattle.reader.proofs.TurnLaws.{Begins, begins, Turned, turned-settled, turned-fits, turned-room, turned-rest}
 use Rattle.reader.proofs.fragment.take_fragment.Statement.{statement}
 use Rattle.reader.proofs.fragment.take_fragment.Tie as tie

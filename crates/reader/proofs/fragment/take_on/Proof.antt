@@ -14,10 +14,10 @@ use Rattle.records.specs.Records.{cellBytes}
 use Rattle.records.specs.Numbers.{OfBytes}
 use Rattle.gridfile.specs.Reading.{between, kept}
 use Rattle.gridfile.proofs.WriteLaws.{shape-most}
-use Rattle.reader.specs.declared.reader.Reader.{Reader}
-use Rattle.reader.specs.Held.{stateOf}
+use Rattle.held.specs.declared.reader.Reader.{Reader}
+use Rattle.held.specs.Held.{stateOf}
+use Rattle.held.proofs.OpenLaws.{Open, opened, AtCell, at-cell}
 use Rattle.reader.specs.Calls.{Fits}
-use Rattle.reader.proofs.OpenLaws.{Open, opened, AtCell, at-cell}
 use Rattle.reader.proofs.TurnLaws.{Begins, begins, Turned, turned-settled, turned-fits, turned-room, turned-rest}
 use Rattle.reader.proofs.WholeLaws.{gone-turned}
 use Rattle.reader.proofs.fragment.take_on.Statement.{statement}

@@ -7,10 +7,10 @@ use Rattle.motion.specs.Level.{levelOf}
 use Rattle.motion.specs.Frame.{Placed}
 use Rattle.motion.proofs.TestLaws.{passed, failed}
 use Rattle.grid.specs.Previous.{previous}
-use Rattle.predict.proofs.SubsetLaws.{Sound, subsets-sound}
 use Rattle.refusal.specs.Tests.{refuse, _then_, sizeOf, blockRefusal}
 use Rattle.refusal.proofs.RefusalLaws.{refuse-is, first-is, then-later, accepted}
 use Rattle.refusal.proofs.GridsLaws.{grids-held}
+use Rattle.predict.proofs.SubsetLaws.{Sound, subsets-sound}
 use Rattle.single.specs.Predicting.{predictorsRefusal, predictorsWith, predictorsAnswer}
 use Rattle.single.proofs.AnswerLaws.{predictors-refused}
 use Rattle.single.proofs.predicting.lockdapple_predictors.Statement.{statement}

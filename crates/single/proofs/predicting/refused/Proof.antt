@@ -1,7 +1,7 @@
 -- `single::predicting::refused` meets its contract.
 -- Assumes nothing.
 use mathlib.Core.Path.{refl}
-use Rattle.predict.specs.Slots.{slotted}
+use Rattle.sampled.specs.Slots.{slotted}
 use Rattle.single.specs.Predicting.{refusedPredictors}
 use Rattle.single.proofs.predicting.refused.Statement.{statement}
 use Rattle.single.proofs.predicting.refused.Tie as tie

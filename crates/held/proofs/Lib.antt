@@ -1,0 +1,4 @@
+-- Laws that several proofs and other crates cite.
+pub mod HeldLaws
+pub mod OpenLaws
+pub mod ByteLaws

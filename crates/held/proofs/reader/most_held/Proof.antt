@@ -1,0 +1,18 @@
+-- `held::reader::most_held` meets its contract. Assumes nothing.
+use mathlib.Core.Path.{sym, ap}
+use Prim.Native.Nat.{ℕ, _-_}
+use borrow.Author.Tests.{ne-eqb}
+use Rattle.held.specs.Held.{recordBytes}
+use Rattle.held.proofs.reader.most_held.Statement.{statement}
+use Rattle.held.proofs.reader.most_held.Tie as tie
+
+returns : tie.Need-returns
+unfolding recordBytes
+returns c = sym (ap (λ (n : ℕ). recordBytes n - 1) (c .if1 .taken))
+
+returns-2 : tie.Need-returns-2
+unfolding recordBytes
+returns-2 c = rw (ne-eqb (c .before .args .columns) 0 (c .if1 .left))
+
+pub most-held-spec : {M : Type 1} → statement M
+most-held-spec = tie.close (tie.spec returns returns-2)

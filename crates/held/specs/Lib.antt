@@ -1,0 +1,2 @@
+-- What a reader must believe of what is held between two fragments of a file.
+pub mod Held

@@ -1,0 +1,100 @@
+use crate::reader::Reader;
+use crate::reader::between;
+ghost use mathlib.Core.Path.{_≡_};
+ghost use mathlib.Core.List.{[], _∷_, _++_};
+ghost use Prim.Native.Nat.{_+_, _≤_, _<_};
+ghost use Rattle.gridfile.specs.Reading.{begun, headerEnd, marked, next};
+ghost use Rattle.held.specs.Held.{mostCells, recordBytes, readerOf, stateOf, Settled};
+
+// The header's last byte has come: 12 and 13, or the cells to come.
+fn header_end(room: usize, columns: u32, rows: u32) -> Reader
+    requires { ⌜ (columns ≤ mostCells) × (rows ≤ mostCells) ⌝ }
+    ensures { λ r. ⌜ r ≡ readerOf (headerEnd room columns rows) ⌝ }
+{
+    if columns % 2 != 0 {
+        return between(12, columns, rows, 0);
+    }
+    if rows % 2 != 0 {
+        return between(12, columns, rows, 0);
+    }
+    if room < (columns as usize) * (rows as usize) {
+        return between(13, columns, rows, 0);
+    }
+    between(0, columns, rows, 0)
+}
+
+// One byte more of the record that comes next.
+fn begin(reader: Reader, byte: u8) -> Reader
+    requires { ⌜ Settled reader × (reader .code ≡ 0) × (reader .held + 1 < recordBytes (reader .columns)) ⌝ }
+    ensures { λ r. ⌜ r ≡ readerOf (begun (stateOf reader) (stateOf reader .part ++ byte ∷ [])) ⌝ }
+{
+    let mut part = reader.part;
+    let held = reader.held as usize;
+    part[held] = byte;
+    Reader {
+        code: 0,
+        columns: reader.columns,
+        rows: reader.rows,
+        cells: reader.cells,
+        held: reader.held + 1,
+        part,
+        spare: 0,
+    }
+}
+
+// Whether a byte may stand at its place in a record.
+fn mark_holds(place: u32, byte: u8) -> bool
+    ensures { λ r. ⌜ r ≡ marked place byte ⌝ }
+{
+    if place == 0 {
+        return byte == 0x4C;
+    }
+    if place == 1 {
+        return byte == 0x47;
+    }
+    true
+}
+
+fn header_byte(reader: Reader, room: usize, byte: u8) -> Reader
+    requires { ⌜ Settled reader × (reader .code ≡ 0) × (reader .columns ≡ 0) ⌝ }
+    ensures { λ r. ⌜ r ≡ readerOf (next room (stateOf reader) byte) ⌝ }
+{
+    if !mark_holds(reader.held, byte) {
+        return between(10, reader.columns, reader.rows, reader.cells);
+    }
+    if reader.held < 3 {
+        return begin(reader, byte);
+    }
+    let part = reader.part;
+    header_end(room, part[2] as u32 + 1, byte as u32 + 1)
+}
+
+fn cell_byte(reader: Reader, byte: u8) -> Reader
+    requires { ⌜ Settled reader × (reader .code ≡ 0) × (0 < reader .columns) ⌝ }
+    ensures { λ r. ⌜ r ≡ readerOf (next 0 (stateOf reader) byte) ⌝ }
+{
+    if (reader.columns as usize) * (reader.rows as usize) <= reader.cells as usize {
+        return between(11, reader.columns, reader.rows, reader.cells);
+    }
+    if !mark_holds(reader.held, byte) {
+        return between(10, reader.columns, reader.rows, reader.cells);
+    }
+    if reader.held < 9 {
+        return begin(reader, byte);
+    }
+    between(0, reader.columns, reader.rows, reader.cells + 1)
+}
+
+// The next byte of a file that nothing was wrong with so far.
+pub fn next_byte(reader: Reader, room: usize, byte: u8) -> Reader
+    requires { ⌜ Settled reader ⌝ }
+    ensures { λ r. ⌜ r ≡ readerOf (next room (stateOf reader) byte) ⌝ }
+{
+    if reader.code != 0 {
+        return reader;
+    }
+    if reader.columns == 0 {
+        return header_byte(reader, room, byte);
+    }
+    cell_byte(reader, byte)
+}

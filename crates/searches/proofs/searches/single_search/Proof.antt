@@ -1,0 +1,111 @@
+-- `searches::searches::single_search` meets its contract: a call that is not refused starts in range, inside its planes.
+-- Assumes nothing.
+use borrow.Author.Needs.{needs}
+use mathlib.Core.Path.{sym, ap, subst, _∙_}
+use lib.ListN.{length}
+use denote.Ref.{now}
+use Rattle.motion.specs.declared.block.Block.{Block}
+use Rattle.motion.specs.declared.vector.MotionVector.{MotionVector}
+use Rattle.motion.specs.Range.{inRange}
+use Rattle.motion.proofs.TestLaws.{passed, failed}
+use Rattle.sad.specs.declared.rd.MVCandidateRD.{MVCandidateRD}
+use Rattle.sad.specs.Plane.{Lies}
+use Rattle.sad.specs.Cost.{rdAt}
+use Rattle.search.specs.declared.result.MotionSearchResult.{MotionSearchResult}
+use Rattle.single.specs.declared.found.Found.{Found}
+use Rattle.single.specs.Found.{refused, foundOf}
+use Rattle.single.proofs.OpenedLaws.{Opened, opened}
+use Rattle.single.proofs.AnswerLaws.{refuses-first, refuses-later, refuses-at, finds}
+use Rattle.searches.specs.Searches.{searchBy, searchRefusal, searchAnswer}
+use Rattle.searches.proofs.searches.single_search.Statement.{statement}
+use Rattle.searches.proofs.searches.single_search.Tie as tie
+
+-- the numbers 1 to 4 passed
+ok : (c : tie.Else1) → Opened (c .before .before .before .before .args .width) (c .before .before .before .before .args .height) (c .before .before .before .before .args .level) 0 (c .before .before .before .before .args .bx) (c .before .before .before .before .args .by) (length (now (c .before .before .before .before .args .cur))) (length (now (c .before .before .before .before .args .reference)))
+ok c =
+    let a = c .before .before .before .before .args in
+    opened (a .width) (a .height) (a .level) 0 (a .bx) (a .by) (length (now (a .cur))) (length (now (a .reference))) (sym (c .before .call-refusal .ensures) ∙ c .if1 .left)
+
+-- and the block that is made lies inside both planes
+inside : (c : tie.After-block-at) → Lies (c .block-at .result) (length (now (c .before .before .before .before .before .args .cur))) × Lies (c .block-at .result) (length (now (c .before .before .before .before .before .args .reference)))
+inside c =
+    let first = c .before in
+    let a = first .before .before .before .before .args in (
+      subst (λ (b : Block). Lies b (length (now (a .cur)))) (sym (c .block-at .ensures)) (ok first .cur),
+      subst (λ (b : Block). Lies b (length (now (a .reference)))) (sym (c .block-at .ensures)) (ok first .ref),
+    )
+
+call-refusal-requires : tie.Need-call-refusal-requires
+call-refusal-requires c κs = search needs
+
+refuse-requires : tie.Need-refuse-requires
+refuse-requires c κs = search needs
+
+returns : tie.Need-returns
+unfolding searchAnswer searchRefusal
+returns c =
+    let call = c .before .before .call-refusal in
+    c .refuse .ensures ∙ ap refused (call .ensures) ∙ sym (refuses-first _ _ _ (λ e. c .before .if1 .taken (call .ensures ∙ e)))
+
+block-at-requires : tie.Need-block-at-requires
+block-at-requires c κs = ok c .none
+
+holds-requires : tie.Need-holds-requires
+holds-requires c κs = search needs
+
+refuse-requires-2 : tie.Need-refuse-requires-2
+refuse-requires-2 c κs = search needs
+
+returns-2 : tie.Need-returns-2
+unfolding searchAnswer searchRefusal
+returns-2 c =
+    let at = c .before .before .before in
+    let first = at .before in
+    let a = first .before .before .before .before .args in
+    let out = failed (c .before .before .holds .ensures ∙ ap (λ (b : Block). inRange (b .range) (a .mv)) (at .block-at .ensures)) (c .before .if2 .taken) in
+    c .refuse2 .ensures ∙ sym (refuses-at 8 _ _ out) ∙ sym (refuses-later _ _ _ (sym (first .before .call-refusal .ensures) ∙ first .if1 .left))
+
+get-fullpel-mv-rd-requires : tie.Need-get-fullpel-mv-rd-requires
+get-fullpel-mv-rd-requires c κs = inside (c .before .before)
+
+search-by-requires : tie.Need-search-by-requires
+search-by-requires c κs =
+    (inside (c .before .before .before), passed (c .before .before .holds .ensures) (c .before .if2 .left))
+
+done-requires : tie.Need-done-requires
+done-requires c κs = search needs
+
+returns-3 : tie.Need-returns-3
+unfolding searchAnswer searchRefusal
+returns-3 c =
+    let cost = c .before .before in
+    let held = cost .before .before in
+    let at = held .before in
+    let first = at .before in
+    let a = first .before .before .before .before .args in
+    let cur = now (a .cur) in
+    let ref = now (a .reference) in
+    let rd : Block → MotionVector → MVCandidateRD = λ b v. rdAt b cur ref (a .weight) v in
+    let found : MotionSearchResult → Found = λ m. foundOf (m .mv) (m .rd) in
+    let best = c .before .search-by .ensures
+    ∙ ap (λ (r : MVCandidateRD). searchBy (a .method) (rd (at .block-at .result)) (record { mv = a .mv; rd = r })) (cost .get-fullpel-mv-rd .ensures)
+    ∙ ap (λ (b : Block). searchBy (a .method) (rd b) (record { mv = a .mv; rd = rd b (a .mv) })) (at .block-at .ensures) in
+    let in-range = passed (held .holds .ensures ∙ ap (λ (b : Block). inRange (b .range) (a .mv)) (at .block-at .ensures)) (cost .before .if2 .left) in
+    c .done .ensures ∙ ap found best ∙ sym (finds 9 _ _ in-range)
+    ∙ sym (refuses-later _ _ _ (sym (first .before .call-refusal .ensures) ∙ first .if1 .left))
+
+pub single-search-spec : {M : Type 1} → statement M
+single-search-spec =
+    tie.close
+    (tie.spec
+    call-refusal-requires
+    refuse-requires
+    returns
+    block-at-requires
+    holds-requires
+    refuse-requires-2
+    returns-2
+    get-fullpel-mv-rd-requires
+    search-by-requires
+    done-requires
+    returns-3)

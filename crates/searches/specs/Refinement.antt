@@ -1,0 +1,30 @@
+-- One refinement of a block, round the vector stored in its first cell.
+use Prim.Native.Nat.{ℕ}
+use mathlib.Core.List.{List}
+use lib.IntN.{ℤ}
+use lib.ListN.{length}
+use Rattle.motion.specs.declared.vector.MotionVector.{MotionVector}
+use Rattle.motion.specs.declared.block.Block.{Block}
+use Rattle.motion.specs.Level.{levelOf}
+use Rattle.grid.specs.Grid.{cellAt, storedAt}
+use Rattle.refusal.specs.Tests.{refuse, _then_, callRefusal, gridOk}
+use Rattle.sad.specs.Cost.{rdAt}
+use Rattle.points.specs.Window.{refineWindow, windowOk}
+use Rattle.search.specs.Full.{refine}
+use Rattle.single.specs.declared.found.Found.{Found}
+use Rattle.single.specs.Found.{foundOf, answer}
+use Rattle.single.specs.Call.{blockAt}
+
+-- 8: an empty window; else vector, SAD and cost at shift s
+unfoldable pub windowAnswer : Block → List ℕ → List ℕ → ℕ → MotionVector → ℕ → Found
+windowAnswer b cur ref weight stored s =
+    let best = refine (rdAt b cur ref weight) (b .range) stored s in
+    answer (refuse 8 (windowOk (refineWindow (b .range) stored s))) (foundOf (best .mv) (best .rd))
+
+-- numbers 1 to 4, then 5: a grid too short, then 8
+unfoldable pub refineAnswer : ℕ → ℕ → ℕ → ℕ → ℕ → List ℕ → List ℕ → List ℤ → List ℤ → List ℕ → ℕ → Found
+refineAnswer width height level bx by cur ref rows cols sads weight =
+    let b = blockAt width height level 1 bx by in
+    let stored = storedAt rows cols (cellAt width bx by) in
+    answer (callRefusal width height level 1 bx by (length cur) (length ref) then refuse 5 (gridOk width height (length rows) (length cols) (length sads)))
+    (windowAnswer b cur ref weight stored (levelOf level .ssdec))

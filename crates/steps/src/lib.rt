@@ -1,0 +1,2 @@
+// The entry point on a superblock: it asks nothing of its caller, and refuses by document 01's numbers instead.
+pub mod steps;

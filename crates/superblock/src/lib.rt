@@ -1,0 +1,2 @@
+// A superblock step.
+pub mod step;

@@ -1,0 +1,241 @@
+use estimate::block::estimate_motion;
+use estimate::block::refine_motion;
+use estimate::block::window_at;
+use grid::save::save_me_stats;
+use motion::level::level_of;
+use motion::superblock::superblock_x;
+use motion::superblock::superblock_y;
+ghost use mathlib.Core.Path.{_≡_};
+ghost use mathlib.Core.Bool.{true};
+ghost use Prim.Native.Nat.{_*_, _≤_, _<_};
+ghost use lib.ListN.{length};
+ghost use Rattle.motion.specs.Frame.{Side};
+ghost use Rattle.motion.specs.Limits.{largestSide, cellSide, superblockSide};
+ghost use Rattle.motion.specs.Superblock.{superblocks};
+ghost use Rattle.grid.specs.Grid.{Held, cells, gridOf};
+ghost use Rattle.grid.specs.Previous.{HeldIf, previousOf};
+ghost use Rattle.estimate.specs.Inputs.{Ready, Leveled, inputsOf};
+ghost use Rattle.superblock.specs.Step.{blocksAlong, blockCount, blockX, blockY, refinedCount, windowsOk, refinements, estimates, step};
+
+// How many blocks of a size lie along a side of the superblock whose first cell is b.
+fn blocks_along(side: usize, mv_size: usize, b: usize) -> usize
+    requires { ⌜ (side ≤ largestSide) × (cellSide * b ≤ side) × (0 < «mv_size») × («mv_size» ≤ superblockSide) ⌝ }
+    ensures { λ r. ⌜ r ≡ blocksAlong side «mv_size» b ⌝ }
+{
+    let left = side - 4 * b;
+    let extent = if left < 64 { left } else { 64 };
+    (extent + (mv_size - 1)) / mv_size
+}
+
+// How many blocks of a size a superblock has.
+fn block_count(width: usize, height: usize, mv_size: usize, superblock: usize) -> usize
+    requires { ⌜ Side width × Side height × (superblock < superblocks width height) × (0 < «mv_size») × («mv_size» ≤ superblockSide) ⌝ }
+    ensures { λ r. ⌜ r ≡ blockCount width height «mv_size» superblock ⌝ }
+{
+    let across = blocks_along(width, mv_size, superblock_x(width, superblock));
+    across * blocks_along(height, mv_size, superblock_y(width, superblock))
+}
+
+// The column of block k of a superblock.
+fn block_x(width: usize, mv_size: usize, superblock: usize, k: usize) -> usize
+    requires { ⌜ Side width × (0 < «mv_size») × («mv_size» ≤ superblockSide) ⌝ }
+    ensures { λ r. ⌜ r ≡ blockX width «mv_size» superblock k ⌝ }
+{
+    let first = superblock_x(width, superblock);
+    first + mv_size / 4 * (k % blocks_along(width, mv_size, first))
+}
+
+// The row of block k of a superblock.
+fn block_y(width: usize, mv_size: usize, superblock: usize, k: usize) -> usize
+    requires { ⌜ Side width × (superblock ≤ largestSide) × (0 < «mv_size») × («mv_size» ≤ superblockSide) × (k ≤ largestSide) ⌝ }
+    ensures { λ r. ⌜ r ≡ blockY width «mv_size» superblock k ⌝ }
+{
+    let across = blocks_along(width, mv_size, superblock_x(width, superblock));
+    superblock_y(width, superblock) + mv_size / 4 * (k / across)
+}
+
+// How many refinements a step has.
+fn refined_count(width: usize, height: usize, level: usize, superblock: usize) -> usize
+    requires { ⌜ Side width × Side height × Leveled level × (superblock < superblocks width height) ⌝ }
+    ensures { λ r. ⌜ r ≡ refinedCount width height level superblock ⌝ }
+{
+    if level == 4 {
+        return 0;
+    }
+    block_count(width, height, level_of(level).refined, superblock)
+}
+
+// Whether no refinement of a step has an empty window.
+pub fn windows_ok(
+    width: usize,
+    height: usize,
+    level: usize,
+    superblock: usize,
+    rows: &[i16],
+    cols: &[i16],
+) -> bool
+    requires { ⌜ Side width × Side height × Leveled level × (superblock < superblocks width height) ⌝ }
+    requires { ⌜ (cells width height ≤ length (now rows)) × (cells width height ≤ length (now cols)) ⌝ }
+    ensures { λ r. ⌜ r ≡ windowsOk width height level superblock (now (rows .entry)) (now (cols .entry)) ⌝ }
+{
+    let mv_size = level_of(level).refined;
+    let count = refined_count(width, height, level, superblock);
+    let mut k = 0;
+    while k < count {
+        let bx = block_x(width, mv_size, superblock, k);
+        let by = block_y(width, mv_size, superblock, k);
+        if !window_at(width, height, level, bx, by, rows, cols).ok() {
+            return false;
+        }
+        k += 1;
+    }
+    true
+}
+
+// The refinements of a superblock, none of whose windows is empty.
+fn refine_sb_motion(
+    width: usize,
+    height: usize,
+    level: usize,
+    superblock: usize,
+    cur: &[u8],
+    reference: &[u8],
+    lambda: u32,
+    rows: &mut [i16],
+    cols: &mut [i16],
+    sads: &mut [u32],
+)
+    requires { ⌜ Ready (inputsOf width height level (now cur) (now reference) lambda) × (superblock < superblocks width height) ⌝ }
+    requires { ⌜ Held width height (gridOf (now rows) (now cols) (now sads)) ⌝ }
+    requires { ⌜ windowsOk width height level superblock (now rows) (now cols) ≡ true ⌝ }
+    ensures { λ r. ⌜ gridOf (now (rows .exit)) (now (cols .exit)) (now (sads .exit)) ≡ refinements (inputsOf width height level (now (cur .entry)) (now (reference .entry)) lambda) superblock (gridOf (now (rows .entry)) (now (cols .entry)) (now (sads .entry))) ⌝ }
+{
+    let mv_size = level_of(level).refined;
+    let count = refined_count(width, height, level, superblock);
+    let mut k = 0;
+    while k < count {
+        let bx = block_x(width, mv_size, superblock, k);
+        let by = block_y(width, mv_size, superblock, k);
+        let stats = refine_motion(
+            width,
+            height,
+            level,
+            bx,
+            by,
+            cur,
+            reference,
+            lambda,
+            &*rows,
+            &*cols,
+        );
+        save_me_stats(width, height, mv_size, bx, by, stats, rows, cols, sads);
+        k += 1;
+    }
+}
+
+// The blocks of a superblock.
+fn estimate_sb_motion(
+    width: usize,
+    height: usize,
+    level: usize,
+    superblock: usize,
+    cur: &[u8],
+    reference: &[u8],
+    lambda: u32,
+    present: bool,
+    prev_rows: &[i16],
+    prev_cols: &[i16],
+    prev_sads: &[u32],
+    rows: &mut [i16],
+    cols: &mut [i16],
+    sads: &mut [u32],
+)
+    requires { ⌜ Ready (inputsOf width height level (now cur) (now reference) lambda) × (superblock < superblocks width height) ⌝ }
+    requires { ⌜ HeldIf width height (previousOf present (gridOf (now «prev_rows») (now «prev_cols») (now «prev_sads»))) ⌝ }
+    requires { ⌜ Held width height (gridOf (now rows) (now cols) (now sads)) ⌝ }
+    ensures { λ r. ⌜ gridOf (now (rows .exit)) (now (cols .exit)) (now (sads .exit)) ≡ estimates (inputsOf width height level (now (cur .entry)) (now (reference .entry)) lambda) (previousOf present (gridOf (now («prev_rows» .entry)) (now («prev_cols» .entry)) (now («prev_sads» .entry)))) superblock (gridOf (now (rows .entry)) (now (cols .entry)) (now (sads .entry))) ⌝ }
+{
+    let mv_size = level_of(level).mv_size;
+    let count = block_count(width, height, mv_size, superblock);
+    let mut k = 0;
+    while k < count {
+        let bx = block_x(width, mv_size, superblock, k);
+        let by = block_y(width, mv_size, superblock, k);
+        let stats = estimate_motion(
+            width,
+            height,
+            level,
+            bx,
+            by,
+            cur,
+            reference,
+            lambda,
+            present,
+            prev_rows,
+            prev_cols,
+            prev_sads,
+            &*rows,
+            &*cols,
+            &*sads,
+        );
+        save_me_stats(width, height, mv_size, bx, by, stats, rows, cols, sads);
+        k += 1;
+    }
+}
+
+// One superblock at one level. False, with the grid as it stood, where a window is empty.
+pub fn superblock_step(
+    width: usize,
+    height: usize,
+    level: usize,
+    superblock: usize,
+    cur: &[u8],
+    reference: &[u8],
+    lambda: u32,
+    present: bool,
+    prev_rows: &[i16],
+    prev_cols: &[i16],
+    prev_sads: &[u32],
+    rows: &mut [i16],
+    cols: &mut [i16],
+    sads: &mut [u32],
+) -> bool
+    requires { ⌜ Ready (inputsOf width height level (now cur) (now reference) lambda) × (superblock < superblocks width height) ⌝ }
+    requires { ⌜ HeldIf width height (previousOf present (gridOf (now «prev_rows») (now «prev_cols») (now «prev_sads»))) ⌝ }
+    requires { ⌜ Held width height (gridOf (now rows) (now cols) (now sads)) ⌝ }
+    ensures { λ r. ⌜ r ≡ windowsOk width height level superblock (now (rows .entry)) (now (cols .entry)) ⌝ }
+    ensures { λ r. ⌜ gridOf (now (rows .exit)) (now (cols .exit)) (now (sads .exit)) ≡ step (inputsOf width height level (now (cur .entry)) (now (reference .entry)) lambda) (previousOf present (gridOf (now («prev_rows» .entry)) (now («prev_cols» .entry)) (now («prev_sads» .entry)))) superblock (gridOf (now (rows .entry)) (now (cols .entry)) (now (sads .entry))) ⌝ }
+{
+    if !windows_ok(width, height, level, superblock, &*rows, &*cols) {
+        return false;
+    }
+    refine_sb_motion(
+        width,
+        height,
+        level,
+        superblock,
+        cur,
+        reference,
+        lambda,
+        rows,
+        cols,
+        sads,
+    );
+    estimate_sb_motion(
+        width,
+        height,
+        level,
+        superblock,
+        cur,
+        reference,
+        lambda,
+        present,
+        prev_rows,
+        prev_cols,
+        prev_sads,
+        rows,
+        cols,
+        sads,
+    );
+    true
+}
