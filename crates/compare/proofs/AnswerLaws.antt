@@ -7,7 +7,7 @@ use borrow.Author.Tests.{leb-true, eq-eqb}
 use lib.Dec.{leb}
 use lib.ListN.{length, getD}
 use Rattle.grid.specs.Grid.{Grid, room}
-use Rattle.refusal.specs.Tests.{refuse, _then_}
+use Rattle.refusal.specs.Refusals.{refuse, _then_}
 use Rattle.refusal.proofs.RefusalLaws.{none-of, passes}
 use Rattle.gridfile.specs.declared.read.Shape.{Shape}
 use Rattle.compare.specs.Differ.{differing}

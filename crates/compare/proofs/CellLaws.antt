@@ -9,7 +9,7 @@ use lib.IntN.{ℤ, pos, negsuc}
 use mir.Syntax.{w16}
 use mir.Val.{SFits, ofZ, toZ}
 use mir.ValLaws.{toZ-ofZ}
-use Rattle.motion.proofs.TestLaws.{both, same, not-so}
+use Rattle.ground.proofs.TestLaws.{both, same, not-so}
 use Rattle.grid.specs.declared.cells.MEStats.{MEStats}
 use Rattle.grid.specs.Grid.{Grid, statsAt}
 use Rattle.compare.specs.Differ.{eqZ, sameCell, differsAt}

@@ -8,7 +8,7 @@ use Prim.Native.Nat.{ℕ, zero, suc, _+_, _-_, _≤_, _<_}
 use native.Mathlib.Numerals.{add-one}
 use native.Mathlib.Omega.{arith}
 use lib.ListN.{length, getD}
-use Rattle.motion.proofs.TestLaws.{tested}
+use Rattle.ground.proofs.TestLaws.{tested}
 use Rattle.grid.specs.Grid.{Grid}
 use Rattle.compare.specs.Differ.{differsAt, placesFrom, differing}
 

@@ -3,7 +3,7 @@ use mathlib.Core.Path.{_≡_, refl}
 use mathlib.Core.List.{List, [], _∷_}
 use lib.IntN.{ℤ, pos, negℤ}
 use Rattle.grid.specs.Grid.{Grid, gridOf, storedAt, statsAt, room}
-use Rattle.refusal.specs.Tests.{refuse, _then_}
+use Rattle.refusal.specs.Refusals.{refuse, _then_}
 use Rattle.gridfile.specs.declared.read.Shape.{Shape}
 use Rattle.compare.specs.Differ.{eqZ, sameCell, differsAt, placesFrom, differing}
 use Rattle.compare.specs.Answer.{compareRefusal, comparisonOf, compareAnswer}

@@ -7,7 +7,7 @@ use native.Mathlib.Omega.{arith}
 use borrow.Author.Tests.{eqb-true}
 use lib.Dec.{eqb}
 use lib.ListN.{length}
-use Rattle.motion.proofs.TestLaws.{both}
+use Rattle.ground.proofs.TestLaws.{both}
 use Rattle.grid.specs.declared.cells.MEStats.{MEStats}
 use Rattle.grid.specs.Grid.{Grid, statsAt, room}
 use Rattle.refusal.proofs.RefusalLaws.{none-of, passes}

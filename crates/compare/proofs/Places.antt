@@ -6,7 +6,7 @@ use mathlib.Core.List.{List, [], _∷_, _++_, List·Memᴰ·head}
 use Prim.Native.Nat.{ℕ, _+_, _-_}
 use native.Mathlib.Omega.{arith}
 use lib.ListN.{length}
-use Rattle.motion.proofs.TestLaws.{tested}
+use Rattle.ground.proofs.TestLaws.{tested}
 use Rattle.compare.specs.Differ.{differsAt, placesFrom, differing}
 use Rattle.compare.specs.Places.{_∈_, ExactPlaces, NoneDiffer, InBlocks, OneByOne}
 use Rattle.compare.proofs.CellLaws.{differs-of, same-of, differs-is}

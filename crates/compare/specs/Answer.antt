@@ -4,13 +4,13 @@ use mathlib.Core.Bool.{_&&_, cond}
 use lib.Dec.{leb, eqb}
 use lib.ListN.{length, getD}
 use Rattle.grid.specs.Grid.{Grid, room}
-use Rattle.refusal.specs.Tests.{refuse, _then_}
+use Rattle.refusal.specs.Refusals.{refuse, _then_}
 use Rattle.gridfile.specs.declared.read.Shape.{Shape}
 use Rattle.compare.specs.declared.calls.Comparison.{Comparison}
 use Rattle.compare.specs.Differ.{differing}
 
--- the first file's number, then the second's; 14 unequal shapes; 13 a lent buffer too short, the first grid's or the second's
-unfoldable pub compareRefusal : Shape → ℕ → Shape → ℕ → ℕ
+-- the first file's refusal, then the second's; 14 unequal shapes; 13 a lent buffer too short, the first grid's or the second's
+unfoldable pub compareRefusal : (first : Shape) (firstRoom : ℕ) (second : Shape) (secondRoom : ℕ) → ℕ
 compareRefusal first firstRoom second secondRoom =
     first .code
     then second .code
@@ -18,13 +18,13 @@ compareRefusal first firstRoom second secondRoom =
     then refuse 13 (leb (first .columns * first .rows) firstRoom)
     then refuse 13 (leb (first .columns * first .rows) secondRoom)
 
--- the number, how many places differ, and the first of them: 0 in a refusal
+-- the refusal, how many places differ, and the first of them: 0 in a refusal
 unfoldable pub comparisonOf : ℕ → ℕ → ℕ → Comparison
 comparisonOf number count first =
     record { code = number; count = cond (eqb number 0) count 0; first = cond (eqb number 0) first 0 }
 
 -- the places from a cell on; where there is none, the first is the number of cells
-unfoldable pub compareAnswer : Shape → Grid → Shape → Grid → ℕ → Comparison
+unfoldable pub compareAnswer : (first : Shape) (f : Grid) (second : Shape) (g : Grid) (from : ℕ) → Comparison
 compareAnswer first f second g from =
     let cells = first .columns * first .rows in
     let places = differing f g from cells in

@@ -26,5 +26,5 @@ placesFrom test i zero = []
 placesFrom test i (suc n) = cond (test i) (i ∷ placesFrom test (suc i) n) (placesFrom test (suc i) n)
 
 -- the differing places from one cell on up to another, in raster order
-unfoldable pub differing : Grid → Grid → ℕ → ℕ → List ℕ
+unfoldable pub differing : (f g : Grid) (from to : ℕ) → List ℕ
 differing f g from to = placesFrom (differsAt f g) from (to - from)

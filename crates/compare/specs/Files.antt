@@ -9,7 +9,7 @@ use Rattle.compare.specs.declared.calls.Comparison.{Comparison}
 use Rattle.compare.specs.Answer.{compareAnswer}
 
 -- each file is read into the grid that is lent for it, and all their cells are compared
-abbrev pub ofFiles : List ℕ → Grid → List ℕ → Grid → Comparison
+abbrev pub ofFiles : (file : List ℕ) (g : Grid) (other : List ℕ) (h : Grid) → Comparison
 ofFiles file g other h = compareAnswer (readAnswer file g) (readGrid file g) (readAnswer other h) (readGrid other h) 0
 
 -- where neither is refused, no cell differs exactly where the two files are the same bytes

@@ -14,7 +14,7 @@ pub struct Comparison {
     pub first: u64,
 }
 
-// What the two files were refused with, then numbers 14 and 13.
+// What the two files were refused with, then refusals 14 and 13.
 pub fn compare_refusal(first: Shape, first_room: usize, second: Shape, second_room: usize) -> u32
     ensures { λ r. ⌜ r ≡ compareRefusal first «first_room» second «second_room» ⌝ }
 {

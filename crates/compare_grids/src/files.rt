@@ -1,5 +1,5 @@
+use gridfile::calls::lockdapple_grid_read;
 use gridfile::read::Shape;
-use gridfile::read::lockdapple_grid_read;
 use libc::STDOUT_FILENO;
 ghost use Rattle.compare_grids.specs.Shaped.{Shaped};
 

@@ -4,8 +4,8 @@ use crate::changes::BEFORE;
 use crate::changes::LENT_CELLS;
 use crate::changes::SAD_BEFORE;
 use crate::changes::report;
-use inter::runs::lockdapple_frame_run;
-use steps::steps::lockdapple_superblock_step;
+use inter::calls::lockdapple_frame_run;
+use steps::calls::lockdapple_superblock_step;
 
 // What the case lends of a buffer: its first elements, or all where there are no more.
 fn plane(all: &[u8], case: Case, buffer: usize) -> &[u8] {

@@ -11,7 +11,7 @@ use lib.ListN.{length, getD}
 use Rattle.motion.specs.declared.block.Block.{Block}
 use Rattle.motion.specs.declared.level.Level.{Level}
 use Rattle.motion.specs.declared.vector.MotionVector.{MotionVector}
-use Rattle.motion.specs.Limits.{cellSide, largestSide}
+use Rattle.motion.specs.Limits.{cellSide, largestSide, largestSample}
 use Rattle.motion.specs.Vector.{zeroV, FitsV, shlV}
 use Rattle.motion.specs.Range.{inRange}
 use Rattle.motion.specs.Level.{levelOf}
@@ -22,7 +22,7 @@ use Rattle.motion.proofs.LevelLaws.{each-level}
 use Rattle.grid.specs.Grid.{cells, cellAt}
 use Rattle.grid.proofs.CellLaws.{cell-inside}
 use Rattle.sad.specs.declared.rd.MVCandidateRD.{MVCandidateRD}
-use Rattle.sad.specs.Plane.{Measured, Lies}
+use Rattle.sad.specs.Asked.{Measured, Lies}
 use Rattle.sad.specs.Cost.{rdOf, rdAt}
 use Rattle.sad.proofs.Sums.{Under}
 use Rattle.sad.proofs.Contained.{lies}
@@ -33,8 +33,9 @@ use Rattle.search.proofs.LeastLaws.{least-each, least-tried, least-cheaper, lea
 use Rattle.search.proofs.FoundLaws.{LooseKept, Settled, loose-empty, loose-one, loose-each, loose-cheaper, loose-diamond, loose-multi, settled}
 use Rattle.predict.specs.declared.predictors.MotionEstimationSubsets.{MotionEstimationSubsets}
 use Rattle.predict.proofs.SubsetLaws.{Sound}
-use Rattle.estimate.specs.Inputs.{Inputs, Leveled, four, three, two, Ready}
-use Rattle.estimate.specs.Block.{Listed, Honest, tryMvs, tryCands, shortSearch, extensiveSearch, fullPixelMe}
+use Rattle.estimate.specs.Inputs.{Inputs}
+use Rattle.estimate.specs.Asked.{four, three, two, Leveled, Ready, Listed, Honest}
+use Rattle.estimate.specs.Block.{tryMvs, tryCands, shortSearch, extensiveSearch, fullPixelMe}
 
 -- a level's own size and its refined one are sizes of the table
 pub own-sized : {level : ℕ} → Leveled level → Sized (levelOf level) (levelOf level .«mv_size»)
@@ -71,7 +72,7 @@ listed s = record { b-few = s .b-most; c-few = s .c-most; b-slots = s .b-slots; 
 abbrev pub Saves : Level → Block → MotionSearchResult → Type 0
 Saves l b best =
     ((l .ssdec < 16) × FitsV (shlV (best .mv) (l .ssdec)))
-    × ((0 < b .w) × (b .w ≤ 64) × (0 < b .h) × (b .h ≤ 64) × (best .rd .sad ≤ 255 * (b .w * b .h)))
+    × ((0 < b .w) × (b .w ≤ 64) × (0 < b .h) × (b .h ≤ 64) × (best .rd .sad ≤ largestSample * (b .w * b .h)))
 
 -- a block of either size at a cell of the frame
 module _ {i : Inputs} (ready : Ready i) {size bx by : ℕ} (sized : Sized (levelOf (i .level)) size) (across : Starts (i .width) size bx) (down : Starts (i .height) size by) where
@@ -85,7 +86,7 @@ module _ {i : Inputs} (ready : Ready i) {size bx by : ℕ} (sized : Sized (level
   block-zero = zero-in-range sized (ready .wide) (ready .high) across down
 
   -- and of a settled record it saves what fits
-  pub block-saves : {l : Level} {b : Block} {best : MotionSearchResult} → l ≡ levelOf (i .level) → b ≡ blockOf (i .width) (i .height) (levelOf (i .level)) size bx by → Under 255 (i .cur) → Under 255 (i .ref) → Settled (blockOf (i .width) (i .height) (levelOf (i .level)) size bx by) (i .cur) (i .ref) (i .weight) best → Saves l b best
+  pub block-saves : {l : Level} {b : Block} {best : MotionSearchResult} → l ≡ levelOf (i .level) → b ≡ blockOf (i .width) (i .height) (levelOf (i .level)) size bx by → Under largestSample (i .cur) → Under largestSample (i .ref) → Settled (blockOf (i .width) (i .height) (levelOf (i .level)) size bx by) (i .cur) (i .ref) (i .weight) best → Saves l b best
   unfolding rdOf
   block-saves {l} {b} {best} e f hc hr s =
       let here = blockOf (i .width) (i .height) (levelOf (i .level)) size bx by in
@@ -99,7 +100,7 @@ module _ {i : Inputs} (ready : Ready i) {size bx by : ℕ} (sized : Sized (level
           m .wide,
           some-rows sized (ready .wide) (ready .high) across down,
           m .high,
-          omega (arith, own, area, mul-assoc 255 (here .w) (here .h)),
+          omega (arith, own, area, mul-assoc largestSample (here .w) (here .h)),
         ),
       ) in
       subst (λ (x : Level). Saves x b best) (sym e) (subst (λ (x : Block). Saves (levelOf (i .level)) x best) (sym f) saves)
@@ -155,7 +156,7 @@ module _ (b : Block) (cur ref : List ℕ) (weight : ℕ) where
         loose-cheaper b cur ref weight (tryCands rd (p .«subset_b») (p .«b_count»)) (tryCands rd (p .«subset_c») (p .«c_count»))
         (loose-cands (p .«subset_b») (p .«b_count»)) (loose-cands (p .«subset_c») (p .«c_count»))
 
-    module _ (m : Measured b) (hc : Under 255 cur) (hr : Under 255 ref) (hw : weight < 2 ^ 32) (p : MotionEstimationSubsets) (s : Sound p) where
+    module _ (m : Measured b) (hc : Under largestSample cur) (hr : Under largestSample ref) (hw : weight < 2 ^ 32) (p : MotionEstimationSubsets) (s : Sound p) where
       -- B holds the zero vector
       zero-tried : (best : MotionSearchResult) → tryMvs (rdAt b cur ref weight) best (p .«subset_b») (p .«b_count») .rd .cost ≤ rdAt b cur ref weight zeroV .cost
       unfolding tryMvs

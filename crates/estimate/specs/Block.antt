@@ -1,11 +1,10 @@
 -- One block: its search from its predictors, or its refinement, and what is saved of the result.
-use mathlib.Core.Path.{_≡_}
-use Prim.Native.Nat.{ℕ, _-_, _*_, _/_, _^_, _≤_, _<_}
+use Prim.Native.Nat.{ℕ, _-_, _*_, _/_, _^_}
 use mathlib.Core.Bool.{cond}
 use mathlib.Core.List.{List}
 use lib.Dec.{ltb, eqb}
 use lib.IntN.{ℤ}
-use lib.ListN.{length, getD}
+use lib.ListN.{getD}
 use Rattle.motion.specs.declared.vector.MotionVector.{MotionVector}
 use Rattle.motion.specs.declared.block.Block.{Block}
 use Rattle.motion.specs.Vector.{zeroV, shlV}
@@ -22,24 +21,12 @@ use Rattle.search.specs.Result.{CostOf, emptyResult, cheaper, tryOne, tryEach}
 use Rattle.search.specs.Diamond.{diamond}
 use Rattle.search.specs.MultiHexagon.{multiHexagon}
 use Rattle.search.specs.Full.{refine}
-use Rattle.sampled.specs.Slots.{slots}
 use Rattle.predict.specs.declared.predictors.MotionEstimationSubsets.{MotionEstimationSubsets}
 use Rattle.predict.specs.Predictors.{subsetsOf}
 use Rattle.estimate.specs.Inputs.{Inputs}
 
--- both lists of a predictor record are in five slots
-pub record Listed (p : MotionEstimationSubsets) : Type 0 where
-  pub b-few : p .«b_count» ≤ slots
-  pub c-few : p .«c_count» ≤ slots
-  pub b-slots : length (p .«subset_b») ≡ slots
-  pub c-slots : length (p .«subset_c») ≡ slots
-
--- a best so far that costs less than the most has its own vector's SAD and cost
-abbrev pub Honest : CostOf → MotionSearchResult → Type 0
-Honest rd best = best .rd .cost < 2 ^ 64 - 1 → best .rd ≡ rd (best .mv)
-
 -- the block of a size at a cell
-unfoldable pub blockIn : Inputs → ℕ → ℕ → ℕ → Block
+unfoldable pub blockIn : (i : Inputs) (size bx by : ℕ) → Block
 blockIn i size bx by = blockOf (i .width) (i .height) (levelOf (i .level)) size bx by
 
 -- what each vector costs a block
@@ -47,7 +34,7 @@ unfoldable pub costIn : Inputs → Block → CostOf
 costIn i b = rdAt b (i .cur) (i .ref) (i .weight)
 
 -- the vectors of a list, in turn
-unfoldable pub tryMvs : CostOf → MotionSearchResult → List MotionVector → ℕ → MotionSearchResult
+unfoldable pub tryMvs : (rd : CostOf) (best : MotionSearchResult) (mvs : List MotionVector) (count : ℕ) → MotionSearchResult
 tryMvs rd best mvs count = tryEach rd best count (λ k. getD mvs k zeroV)
 
 -- levels 3 and 2: the centre, then B, then C: the cheapest (first of equals), then diamond
@@ -72,28 +59,28 @@ unfoldable pub fullPixelMe : CostOf → ℕ → MotionEstimationSubsets → Moti
 fullPixelMe rd level p = cond (eqb level 4) (extensiveSearch rd p) (shortSearch rd p)
 
 -- a result's vector is shifted left by s, and (SAD·16,384)/(w·h), rounded down, is its normalised SAD
-unfoldable pub statsOf : ℕ → ℕ → ℕ → MotionSearchResult → MEStats
+unfoldable pub statsOf : (s w h : ℕ) (best : MotionSearchResult) → MEStats
 statsOf s w h best = record { mv = shlV (best .mv) s; «normalized_sad» = best .rd .sad * 2 ^ 14 / (w * h) }
 
 -- what a block's search saves
-unfoldable pub estimateMotion : Inputs → Previous → ℕ → ℕ → Grid → MEStats
+unfoldable pub estimateMotion : (i : Inputs) (p : Previous) (bx by : ℕ) (g : Grid) → MEStats
 estimateMotion i p bx by g =
     let b = blockIn i (levelOf (i .level) .«mv_size») bx by in
     let mvs = subsetsOf (i .width) (i .height) (i .level) bx by (p .present) (p .grid) g in
     statsOf (levelOf (i .level) .ssdec) (b .w) (b .h) (fullPixelMe (costIn i b) (i .level) mvs)
 
 -- the vector stored in a block's first cell
-unfoldable pub firstStored : ℕ → ℕ → ℕ → List ℤ → List ℤ → MotionVector
+unfoldable pub firstStored : (width bx by : ℕ) (rows cols : List ℤ) → MotionVector
 firstStored width bx by rows cols = storedAt rows cols (cellAt width bx by)
 
 -- the window of a block's refinement
-unfoldable pub windowAt : ℕ → ℕ → ℕ → ℕ → ℕ → List ℤ → List ℤ → Window
+unfoldable pub windowAt : (width height level bx by : ℕ) (rows cols : List ℤ) → Window
 windowAt width height level bx by rows cols =
     let l = levelOf level in
     refineWindow (blockOf width height l (l .refined) bx by .range) (firstStored width bx by rows cols) (l .ssdec)
 
 -- what a block's refinement saves
-unfoldable pub refineMotion : Inputs → ℕ → ℕ → List ℤ → List ℤ → MEStats
+unfoldable pub refineMotion : (i : Inputs) (bx by : ℕ) (rows cols : List ℤ) → MEStats
 refineMotion i bx by rows cols =
     let b = blockIn i (levelOf (i .level) .refined) bx by in
     let s = levelOf (i .level) .ssdec in

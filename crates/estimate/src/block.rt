@@ -17,20 +17,21 @@ ghost use mathlib.Core.Path.{_≡_};
 ghost use mathlib.Core.Bool.{true};
 ghost use Prim.Native.Nat.{_*_, _≤_, _<_};
 ghost use lib.ListN.{length};
-ghost use Rattle.motion.specs.Limits.{largestSide};
+ghost use Rattle.motion.specs.Limits.{largestSide, largestSample};
 ghost use Rattle.motion.specs.Vector.{zeroV, FitsV, shlV};
 ghost use Rattle.motion.specs.Range.{inRange};
 ghost use Rattle.motion.specs.Level.{levelOf};
 ghost use Rattle.motion.specs.Frame.{Side, Starts};
 ghost use Rattle.grid.specs.Grid.{Held, cells, cellAt, gridOf};
 ghost use Rattle.grid.specs.Previous.{HeldIf, previousOf};
-ghost use Rattle.sad.specs.Plane.{Lies};
+ghost use Rattle.sad.specs.Asked.{Lies};
 ghost use Rattle.sad.specs.Cost.{rdAt};
 ghost use Rattle.points.specs.Window.{windowOk};
 ghost use Rattle.search.specs.Result.{tryOne};
 ghost use Rattle.sampled.specs.Slots.{slots};
-ghost use Rattle.estimate.specs.Inputs.{Ready, Leveled, inputsOf};
-ghost use Rattle.estimate.specs.Block.{Listed, Honest, tryMvs, shortSearch, tryCands, extensiveSearch, fullPixelMe, statsOf, estimateMotion, firstStored, windowAt, refineMotion};
+ghost use Rattle.estimate.specs.Inputs.{inputsOf};
+ghost use Rattle.estimate.specs.Asked.{Ready, Leveled, Listed, Honest};
+ghost use Rattle.estimate.specs.Block.{tryMvs, shortSearch, tryCands, extensiveSearch, fullPixelMe, statsOf, estimateMotion, firstStored, windowAt, refineMotion};
 
 // Tries a vector, unless the best so far is that vector's already: it can't be cheaper than itself.
 fn try_unless_best(
@@ -164,7 +165,7 @@ fn full_pixel_me(
 // What is saved of a result: its vector at full size, its SAD as that of a block of 128 by 128.
 fn stats_of(ssdec: u32, w: usize, h: usize, best: MotionSearchResult) -> MEStats
     requires { ⌜ (ssdec < 16) × FitsV (shlV (best .mv) ssdec) ⌝ }
-    requires { ⌜ (0 < w) × (w ≤ 64) × (0 < h) × (h ≤ 64) × (best .rd .sad ≤ 255 * (w * h)) ⌝ }
+    requires { ⌜ (0 < w) × (w ≤ 64) × (0 < h) × (h ≤ 64) × (best .rd .sad ≤ largestSample * (w * h)) ⌝ }
     ensures { λ r. ⌜ r ≡ statsOf ssdec w h best ⌝ }
 {
     let mv = best.mv.shl(ssdec);

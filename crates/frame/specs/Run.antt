@@ -7,17 +7,17 @@ use Rattle.estimate.specs.Inputs.{Inputs, inputsOf, Planes, planeAt}
 use Rattle.superblock.specs.Step.{step}
 
 -- steps at one level, in list order
-unfoldable pub levelRun : Inputs → Previous → List ℕ → Grid → Grid
+unfoldable pub levelRun : (i : Inputs) (p : Previous) (list : List ℕ) (g : Grid) → Grid
 levelRun i p [] g = g
 levelRun i p (n ∷ ns) g = levelRun i p ns (step i p n g)
 
 -- what a level of a run works with
-unfoldable pub inputsAt : ℕ → ℕ → Planes → Planes → ℕ → ℕ → Inputs
+unfoldable pub inputsAt : (width height : ℕ) (cur ref : Planes) (weight level : ℕ) → Inputs
 inputsAt width height cur ref weight level =
     inputsOf width height level (planeAt cur level) (planeAt ref level) weight
 
 -- levels 4, 3, 2, for any list of superblocks in the frame
-unfoldable pub frameRun : ℕ → ℕ → Planes → Planes → ℕ → Previous → List ℕ → Grid → Grid
+unfoldable pub frameRun : (width height : ℕ) (cur ref : Planes) (weight : ℕ) (p : Previous) (list : List ℕ) (g : Grid) → Grid
 frameRun width height cur ref weight p list g =
     let at : ℕ → Inputs = inputsAt width height cur ref weight in
     levelRun (at 2) p list (levelRun (at 3) p list (levelRun (at 4) p list g))

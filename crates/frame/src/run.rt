@@ -6,7 +6,8 @@ ghost use Rattle.motion.specs.Frame.{Side};
 ghost use Rattle.motion.specs.Superblock.{superblocks};
 ghost use Rattle.grid.specs.Grid.{Held, gridOf};
 ghost use Rattle.grid.specs.Previous.{HeldIf, previousOf};
-ghost use Rattle.estimate.specs.Inputs.{Ready, PlaneHeld, inputsOf, planesOf};
+ghost use Rattle.estimate.specs.Inputs.{inputsOf, planesOf};
+ghost use Rattle.estimate.specs.Asked.{Ready, PlaneHeld};
 ghost use Rattle.frame.specs.Run.{levelRun, frameRun};
 
 // Every superblock of a list at one level, in list order.

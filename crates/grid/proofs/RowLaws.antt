@@ -6,8 +6,8 @@ use native.Mathlib.Nat.{add-mul, mod-lt, div-add-mod', div-eq-of-lt-le}
 use native.Mathlib.Omega.{arith}
 use borrow.Author.Tests.{ltb-true, lt-ltb}
 use lib.Dec.{ltb}
+use Rattle.ground.proofs.TestLaws.{both, same}
 use Rattle.motion.specs.Limits.{cellSide}
-use Rattle.motion.proofs.TestLaws.{both, same}
 use Rattle.grid.specs.declared.cells.MEStats.{MEStats}
 use Rattle.grid.specs.Grid.{Grid, cells, cellAt}
 use Rattle.grid.specs.Save.{saveWhere, upTo, covers, saveBlock}

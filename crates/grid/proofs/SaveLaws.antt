@@ -11,8 +11,8 @@ use lib.Dec.{leb, ltb}
 use lib.IntN.{pos}
 use lib.ListN.{length, getD, set, length-set}
 use lib.Seq.{ext-getD, getD-set-same, getD-set-other}
+use Rattle.ground.proofs.TestLaws.{both, either, same}
 use Rattle.motion.specs.Limits.{cellSide}
-use Rattle.motion.proofs.TestLaws.{both, either, same}
 use Rattle.grid.specs.declared.cells.MEStats.{MEStats}
 use Rattle.grid.specs.Grid.{Grid, gridOf, Held, cells, cellAt, storedAt, statsAt}
 use Rattle.grid.specs.Save.{replaceFrom, replace, saveWhere, upTo, covers, saveBlock}

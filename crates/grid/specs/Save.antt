@@ -8,11 +8,11 @@ use Rattle.grid.specs.declared.cells.MEStats.{MEStats}
 use Rattle.grid.specs.Grid.{Grid}
 
 -- from a place on, what stands where the test passes is replaced
-unfoldable pub replaceFrom : {A : Type 0} → ℕ → (ℕ → Bool) → A → List A → List A
+unfoldable pub replaceFrom : {A : Type 0} (i : ℕ) (test : ℕ → Bool) (new : A) (xs : List A) → List A
 replaceFrom i test new [] = []
 replaceFrom i test new (x ∷ xs) = cond (test i) new x ∷ replaceFrom (suc i) test new xs
 
-unfoldable pub replace : {A : Type 0} → (ℕ → Bool) → A → List A → List A
+unfoldable pub replace : {A : Type 0} (test : ℕ → Bool) (new : A) (xs : List A) → List A
 replace test new xs = replaceFrom 0 test new xs
 
 -- a result saved in the cells that pass a test
@@ -29,12 +29,12 @@ unfoldable pub upTo : ℕ → ℕ → ℕ → Bool
 upTo low high n = leb low n && ltb n high
 
 -- whether a cell is one of the block of `size` pixels at (bx, by), cropped at the frame
-unfoldable pub covers : ℕ → ℕ → ℕ → ℕ → ℕ → ℕ → Bool
+unfoldable pub covers : (width height size bx by i : ℕ) → Bool
 covers width height size bx by i =
     let x = i % (width / cellSide) in
     let y = i / (width / cellSide) in
     upTo bx (bx + size / cellSide) x && (upTo by (by + size / cellSide) y && ltb y (height / cellSide))
 
 -- a result saved over a block's cells
-unfoldable pub saveBlock : ℕ → ℕ → ℕ → ℕ → ℕ → MEStats → Grid → Grid
+unfoldable pub saveBlock : (width height size bx by : ℕ) (stats : MEStats) (g : Grid) → Grid
 saveBlock width height size bx by stats g = saveWhere (covers width height size bx by) stats g

@@ -9,8 +9,8 @@ use native.Mathlib.Nat.{eq-or-lt-of-le}
 use borrow.Author.Tests.{lt-ltb, le-ltb, le-leb, lt-leb, ne-eqb}
 use lib.ListN.{length, take, drop, length-append, take-append-drop}
 use lib.Seq.{length-take-le}
-use Rattle.motion.proofs.TestLaws.{tested}
-use Rattle.refusal.specs.Tests.{refuse, _then_}
+use Rattle.ground.proofs.TestLaws.{tested}
+use Rattle.refusal.specs.Refusals.{refuse, _then_}
 use Rattle.records.specs.Records.{mark, cellBytes}
 use Rattle.gridfile.specs.Reading.{State, between, refusedAt, begun, marked, next, taken, whole, ended}
 use Rattle.gridfile.proofs.TakenLaws.{refused-stays, first-byte, second-byte, at, at-wrong, at-more}

@@ -1,4 +1,4 @@
--- Laws of a read's answer: the header's number, then that of the cells, then the cells. Assumes nothing.
+-- Laws of a read's answer: the header's refusal, then that of the cells, then the cells. Assumes nothing.
 use mathlib.Core.Path.{_≡_, sym, ap, ap₂, subst, _∙_}
 use mathlib.Core.Bool.{cond}
 use mathlib.Core.List.{List}

@@ -4,7 +4,7 @@ use mathlib.Core.List.{List, [], _∷_}
 use Prim.Native.Nat.{ℕ}
 use lib.IntN.{ℤ, pos, negℤ}
 use Rattle.grid.specs.Grid.{Grid, gridOf, storedAt, statsAt, withCell, room}
-use Rattle.refusal.specs.Tests.{refuse, _then_}
+use Rattle.refusal.specs.Refusals.{refuse, _then_}
 use Rattle.records.specs.Numbers.{bytesOf, numberOf}
 use Rattle.records.specs.Records.{headerRecord, cellRecord, cellOf}
 use Rattle.gridfile.specs.Writing.{cellRecords, fileOf}

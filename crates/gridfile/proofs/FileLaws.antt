@@ -11,7 +11,7 @@ use lib.Dec.{eqb}
 use lib.ListN.{drop}
 use Rattle.grid.specs.declared.cells.MEStats.{MEStats}
 use Rattle.grid.specs.Grid.{Grid, statsAt, withCell, room}
-use Rattle.refusal.specs.Tests.{refuse, _then_}
+use Rattle.refusal.specs.Refusals.{refuse, _then_}
 use Rattle.records.specs.Records.{headerRecord, cellRecord, FitsCell}
 use Rattle.records.proofs.RecordLaws.{length-cell, cell-back}
 use Rattle.gridfile.specs.Writing.{cellRecords, fileOf}

@@ -8,21 +8,21 @@ use native.Mathlib.Omega.{arith}
 use borrow.Author.Tests.{lt-ltb, le-ltb, le-leb, lt-leb, eq-eqb, ne-eqb}
 use lib.Dec.{leb, ltb}
 use lib.ListN.{length, getD, take}
-use Rattle.motion.proofs.TestLaws.{tested}
+use Rattle.ground.proofs.TestLaws.{tested}
 use Rattle.grid.specs.Grid.{Grid}
-use Rattle.refusal.specs.Tests.{refuse, _then_}
+use Rattle.refusal.specs.Refusals.{refuse, _then_}
 use Rattle.records.specs.Records.{headerBytes}
 use Rattle.gridfile.specs.Reading.{State, start, refusedAt, begun, marked, headerEnd, headerDone, recordByte, next, taken, keep, kept}
 use Rattle.gridfile.proofs.TakenLaws.{refused-stays, byte-wrong, byte-more, byte-last, past-mark}
 
--- the number of the header: its refusal, or 11 where it has not ended
+-- what the header is refused with: its own refusal, or 11 where it has not ended
 abbrev pub stateNumber : State → ℕ
 stateNumber s = s .code then refuse 11 (ltb 0 (s .columns))
 
 abbrev pub headNumber : ℕ → List ℕ → ℕ
 headNumber room file = stateNumber (taken room start (take headerBytes file))
 
--- the number that a mark gives, of which bytes may be missing
+-- the refusal that a mark gives, of which bytes may be missing
 abbrev pub markNumber : List ℕ → ℕ → ℕ
 markNumber file at =
     refuse 11 (ltb at (length file)) then refuse 10 (marked 0 (getD file at 0)) then refuse 11 (ltb (at + 1) (length file)) then refuse 10 (marked 1 (getD file (at + 1) 0))
@@ -147,7 +147,7 @@ module _ (room columns rows : ℕ) where
       unfolding headerEnd refuse _then_
       none-wrong h = rw (eq-eqb (columns % 2) 0 even) (rw (eq-eqb (rows % 2) 0 both-even) (rw (le-leb (columns * rows) room h)))
 
--- the header's number, from the front: the mark, two bytes more, then 12 and 13
+-- the header's refusal, from the front: the mark, two bytes more, then 12 and 13
 pub number-refused : stateNumber (refusedAt start 10) ≡ 10
 unfolding refusedAt refuse _then_
 number-refused = refl

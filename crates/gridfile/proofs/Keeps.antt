@@ -11,7 +11,7 @@ use lib.Seq.{take-at}
 use Rattle.motion.specs.Limits.{sideStep, largestSide, cellSide}
 use Rattle.motion.specs.Frame.{Side}
 use Rattle.grid.specs.Grid.{Grid, Held, cells, statsAt, room}
-use Rattle.refusal.specs.Tests.{refuse, _then_, sideOk, gridOk, gridHolds}
+use Rattle.refusal.specs.Refusals.{refuse, _then_, sideOk, gridOk, gridHolds}
 use Rattle.records.specs.Records.{headerRecord, fileBytes}
 use Rattle.gridfile.specs.declared.read.Shape.{Shape}
 use Rattle.gridfile.specs.Writing.{fileOf, writeRefusal, writtenOf, writeAnswer, writtenFile}

@@ -5,9 +5,9 @@ use Prim.Native.Nat.{ℕ, suc, _+_, _*_, _≤_, _<_}
 use native.Mathlib.Omega.{arith}
 use lib.ListN.{length, take, drop, length-append, length-drop}
 use lib.Seq.{slice, take-at, drop-at, drop-drop}
+use Rattle.ground.proofs.ListLaws.{take-drop}
 use Rattle.grid.specs.Grid.{Grid, withCell}
 use Rattle.records.specs.Records.{mark, headerBytes, cellOf, fileBytes}
-use Rattle.records.proofs.NumberLaws.{take-drop}
 use Rattle.gridfile.specs.Reading.{State, between, taken, kept, ended}
 use Rattle.gridfile.proofs.TakenLaws.{taken-append, kept-append, record-taken, record-kept}
 use Rattle.gridfile.proofs.AcceptedLaws.{Splits, accepted-record, accepted-end}

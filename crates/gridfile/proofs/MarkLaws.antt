@@ -8,10 +8,11 @@ use lib.ListN.{length, getD, take, drop, length-drop, take-append-drop}
 use lib.Seq.{slice, drop-cons, drop-drop, length-take-le, take-at}
 use mir.Syntax.{w8}
 use mir.Val.{Fits}
-use Rattle.motion.proofs.TestLaws.{both, not-so}
+use Rattle.ground.proofs.TestLaws.{both, not-so}
+use Rattle.ground.proofs.ListLaws.{take-drop}
 use Rattle.records.specs.Records.{mark, cellBytes}
 use Rattle.records.specs.Numbers.{numberOf}
-use Rattle.records.proofs.NumberLaws.{take-drop, two-bytes}
+use Rattle.records.proofs.NumberLaws.{two-bytes}
 use Rattle.gridfile.specs.Reading.{marked}
 use Rattle.gridfile.proofs.TakenLaws.{first-byte, second-byte, first-right, second-right}
 

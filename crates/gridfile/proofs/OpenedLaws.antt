@@ -9,9 +9,9 @@ use native.Mathlib.Omega.{arith}
 use borrow.Author.Tests.{eqb-true, leb-true}
 use lib.Dec.{leb, eqb}
 use lib.ListN.{take}
-use Rattle.motion.proofs.TestLaws.{tested, both}
+use Rattle.ground.proofs.TestLaws.{tested, both}
 use Rattle.grid.specs.Grid.{Grid}
-use Rattle.refusal.specs.Tests.{refuse, _then_}
+use Rattle.refusal.specs.Refusals.{refuse, _then_}
 use Rattle.refusal.proofs.RefusalLaws.{first-passed, passes, then-first}
 use Rattle.records.specs.Records.{mark}
 use Rattle.gridfile.specs.Reading.{State, between, start, refusedAt, begun, marked, headerEnd, taken, kept, whole, ended}

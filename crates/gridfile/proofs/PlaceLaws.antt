@@ -10,9 +10,9 @@ use borrow.Author.Tests.{ltb-true, lt-ltb}
 use lib.Dec.{ltb, eqb}
 use lib.ListN.{length, getD, drop, length-drop, drop-of-length-le}
 use lib.Seq.{drop-cons, getD-drop}
-use Rattle.motion.specs.Every.{allBelow}
-use Rattle.motion.proofs.TestLaws.{tested, both, same}
-use Rattle.refusal.specs.Tests.{refuse, _then_}
+use Rattle.ground.specs.Every.{allBelow}
+use Rattle.ground.proofs.TestLaws.{tested, both, same}
+use Rattle.refusal.specs.Refusals.{refuse, _then_}
 use Rattle.records.specs.Records.{mark, cellBytes, fileBytes}
 use Rattle.gridfile.specs.Reading.{State, between, begun, marked, taken, ended}
 use Rattle.gridfile.proofs.TakenLaws.{taken-append, at-more, part-taken, record-taken}

@@ -8,11 +8,11 @@ use native.Mathlib.Omega.{arith}
 use borrow.Author.Tests.{leb-true}
 use lib.ListN.{length, drop, length-append}
 use lib.Seq.{sets, sets-eq}
+use Rattle.ground.proofs.TestLaws.{both}
 use Rattle.motion.specs.Limits.{largestSide, cellSide}
 use Rattle.motion.specs.Frame.{Side}
-use Rattle.motion.proofs.TestLaws.{both}
 use Rattle.grid.specs.Grid.{Grid, Held, cells, statsAt}
-use Rattle.refusal.specs.Tests.{sideOk}
+use Rattle.refusal.specs.Refusals.{sideOk}
 use Rattle.refusal.proofs.RefusalLaws.{first-passed, passes, side-of, held}
 use Rattle.records.specs.Records.{headerBytes, headerRecord, cellBytes, cellRecord, fileBytes}
 use Rattle.records.proofs.NumberLaws.{puts-on}

@@ -23,7 +23,7 @@ abbrev pub SamePast : ℕ → Grid → Grid → Type 0
 SamePast n g h = (i : ℕ) → n ≤ i → statsAt g i ≡ statsAt h i
 
 -- the bytes that a write without a refusal leaves
-abbrev pub written : ℕ → ℕ → Grid → List ℕ → List ℕ
+abbrev pub written : (width height : ℕ) (g : Grid) (file : List ℕ) → List ℕ
 written width height g file = take (fileBytes (cells width height)) (writtenFile width height g file)
 
 -- writing then reading gives the same grid, with 0, and the cells past it stay

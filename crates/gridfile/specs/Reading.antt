@@ -5,7 +5,7 @@ use mathlib.Core.List.{List, [], _∷_, _++_}
 use lib.Dec.{leb, ltb, eqb}
 use lib.ListN.{length, getD}
 use Rattle.grid.specs.Grid.{Grid, withCell, room}
-use Rattle.refusal.specs.Tests.{refuse, _then_}
+use Rattle.refusal.specs.Refusals.{refuse, _then_}
 use Rattle.records.specs.Records.{mark, headerBytes, cellBytes, cellOf}
 use Rattle.gridfile.specs.declared.read.Shape.{Shape}
 
@@ -59,7 +59,7 @@ unfoldable pub cellDone : State → State
 cellDone s = record { code = s .code; columns = s .columns; rows = s .rows; cells = suc (s .cells); part = [] }
 
 -- a byte of a record of so many bytes: a wrong mark byte gives 10 where it stands
-unfoldable pub recordByte : ℕ → State → State → ℕ → State
+unfoldable pub recordByte : (size : ℕ) (done s : State) (byte : ℕ) → State
 recordByte size done s byte =
     cond (marked (length (s .part)) byte)
     (cond (ltb (suc (length (s .part))) size) (begun s (s .part ++ byte ∷ [])) done) (refusedAt s 10)
@@ -76,11 +76,11 @@ taken room s [] = s
 taken room s (byte ∷ bytes) = taken room (next room s byte) bytes
 
 -- a cell whose last byte has come goes to its place in raster order
-unfoldable pub keep : ℕ → State → ℕ → Grid → Grid
+unfoldable pub keep : (room : ℕ) (s : State) (byte : ℕ) (g : Grid) → Grid
 keep room s byte g =
     cond (ltb (s .cells) (next room s byte .cells)) (withCell (s .cells) (cellOf (s .part ++ byte ∷ [])) g) g
 
-unfoldable pub kept : ℕ → State → List ℕ → Grid → Grid
+unfoldable pub kept : (room : ℕ) (s : State) (bytes : List ℕ) (g : Grid) → Grid
 kept room s [] g = g
 kept room s (byte ∷ bytes) g = kept room (next room s byte) bytes (keep room s byte g)
 
@@ -94,7 +94,7 @@ ended s = s .code then refuse 11 (whole s)
 unfoldable pub readRefusal : List ℕ → Grid → ℕ
 readRefusal file g = ended (taken (room g) start file)
 
--- the number, and columns and rows of cells: 0 in a refusal
+-- the refusal, and columns and rows of cells: 0 in a refusal
 unfoldable pub shapeOf : ℕ → ℕ → ℕ → Shape
 shapeOf number columns rows =
     record { code = number; columns = cond (eqb number 0) columns 0; rows = cond (eqb number 0) rows 0 }

@@ -6,7 +6,7 @@ use lib.Dec.{leb, eqb}
 use lib.ListN.{length, drop}
 use Rattle.motion.specs.Limits.{cellSide}
 use Rattle.grid.specs.Grid.{Grid, cells, statsAt}
-use Rattle.refusal.specs.Tests.{refuse, _then_, sideOk, gridHolds}
+use Rattle.refusal.specs.Refusals.{refuse, _then_, sideOk, gridHolds}
 use Rattle.records.specs.Records.{headerRecord, cellRecord, fileBytes}
 use Rattle.gridfile.specs.declared.write.Written.{Written}
 
@@ -20,21 +20,21 @@ unfoldable pub fileOf : ℕ → ℕ → Grid → List ℕ
 fileOf columns rows g = headerRecord columns rows ++ cellRecords g 0 (columns * rows)
 
 -- writing refuses with 1, 5, then 13: the lent bytes are too few
-unfoldable pub writeRefusal : ℕ → ℕ → Grid → List ℕ → ℕ
+unfoldable pub writeRefusal : (width height : ℕ) (g : Grid) (file : List ℕ) → ℕ
 writeRefusal width height g file =
     refuse 1 (sideOk width && sideOk height)
     then refuse 5 (gridHolds width height g)
     then refuse 13 (leb (fileBytes (cells width height)) (length file))
 
--- the number, and how many bytes the file has: 0 in a refusal
+-- the refusal, and how many bytes the file has: 0 in a refusal
 unfoldable pub writtenOf : ℕ → ℕ → Written
 writtenOf number bytes = record { code = number; bytes = cond (eqb number 0) bytes 0 }
 
-unfoldable pub writeAnswer : ℕ → ℕ → Grid → List ℕ → Written
+unfoldable pub writeAnswer : (width height : ℕ) (g : Grid) (file : List ℕ) → Written
 writeAnswer width height g file = writtenOf (writeRefusal width height g file) (fileBytes (cells width height))
 
 -- a refused write leaves the lent bytes; bytes past the file aren't written
-unfoldable pub writtenFile : ℕ → ℕ → Grid → List ℕ → List ℕ
+unfoldable pub writtenFile : (width height : ℕ) (g : Grid) (file : List ℕ) → List ℕ
 writtenFile width height g file =
     cond (eqb (writeRefusal width height g file) 0)
     (fileOf (width / cellSide) (height / cellSide) g ++ drop (fileBytes (cells width height)) file) file

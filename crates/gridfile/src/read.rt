@@ -1,4 +1,3 @@
-use grid::cells::room;
 use grid::cells::save_cell;
 use records::numbers::get_16;
 use records::parts::get_cell;
@@ -7,13 +6,13 @@ ghost use mathlib.Core.Bool.{_&&_};
 ghost use Prim.Native.Nat.{_+_, _*_, _≤_, _<_};
 ghost use lib.ListN.{length, getD, take, drop};
 ghost use lib.Dec.{ltb};
-ghost use Rattle.motion.specs.Every.{allBelow};
+ghost use Rattle.ground.specs.Every.{allBelow};
 ghost use Rattle.grid.specs.Grid.{gridOf};
-ghost use Rattle.refusal.specs.Tests.{refuse, _then_};
+ghost use Rattle.refusal.specs.Refusals.{refuse, _then_};
 ghost use Rattle.records.specs.Records.{headerBytes, fileBytes};
-ghost use Rattle.gridfile.specs.Reading.{marked, between, start, taken, kept, ended, readAnswer, readGrid};
+ghost use Rattle.gridfile.specs.Reading.{marked, between, start, taken, kept, ended};
 
-// A number of document 02, and columns and rows of cells.
+// 0 or a refusal, and columns and rows of cells.
 #[repr(C)]
 pub struct Shape {
     pub code: u32,
@@ -41,8 +40,8 @@ fn mark_refusal(file: &[u8], at: usize) -> u32
     0
 }
 
-// The header: numbers 10, 11, 12 and 13, from the front.
-fn header_refusal(file: &[u8], room: usize) -> u32
+// The header: refusals 10, 11, 12 and 13, from the front.
+pub(crate) fn header_refusal(file: &[u8], room: usize) -> u32
     ensures { λ r. ⌜ r ≡ (taken room start (take headerBytes (now (file .entry))) .code then refuse 11 (ltb 0 (taken room start (take headerBytes (now (file .entry))) .columns))) ⌝ }
 {
     let code = mark_refusal(file, 0);
@@ -81,8 +80,8 @@ fn marks_hold(file: &[u8], count: usize) -> bool
     true
 }
 
-// The cells, and bytes left over: numbers 10 and 11, from the front.
-fn cells_refusal(file: &[u8], columns: usize, rows: usize) -> u32
+// The cells, and bytes left over: refusals 10 and 11, from the front.
+pub(crate) fn cells_refusal(file: &[u8], columns: usize, rows: usize) -> u32
     requires { ⌜ (headerBytes ≤ length (now file)) × (0 < columns) × (columns ≤ 256) × (rows ≤ 256) ⌝ }
     ensures { λ r. ⌜ r ≡ ended (taken 0 (between columns rows 0) (drop headerBytes (now (file .entry)))) ⌝ }
 {
@@ -107,7 +106,7 @@ fn cells_refusal(file: &[u8], columns: usize, rows: usize) -> u32
 }
 
 // The cells of a file that nothing is wrong with.
-fn get_cells(
+pub(crate) fn get_cells(
     file: &[u8],
     columns: usize,
     down: usize,
@@ -125,41 +124,5 @@ fn get_cells(
         let cell = get_cell(file, 4 + 10 * i);
         save_cell(i, cell, rows, cols, sads);
         i += 1;
-    }
-}
-
-#[no_mangle]
-pub extern "C" fn lockdapple_grid_read(
-    file: &[u8],
-    rows: &mut [i16],
-    cols: &mut [i16],
-    sads: &mut [u32],
-) -> Shape
-    ensures { λ r. ⌜ r ≡ readAnswer (now (file .entry)) (gridOf (now (rows .entry)) (now (cols .entry)) (now (sads .entry))) ⌝ }
-    ensures { λ r. ⌜ gridOf (now (rows .exit)) (now (cols .exit)) (now (sads .exit)) ≡ readGrid (now (file .entry)) (gridOf (now (rows .entry)) (now (cols .entry)) (now (sads .entry))) ⌝ }
-{
-    let code = header_refusal(file, room(rows.len(), cols.len(), sads.len()));
-    if code != 0 {
-        return Shape {
-            code,
-            columns: 0,
-            rows: 0,
-        };
-    }
-    let columns = file[2] as usize + 1;
-    let down = file[3] as usize + 1;
-    let number = cells_refusal(file, columns, down);
-    if number != 0 {
-        return Shape {
-            code: number,
-            columns: 0,
-            rows: 0,
-        };
-    }
-    get_cells(file, columns, down, rows, cols, sads);
-    Shape {
-        code: 0,
-        columns: columns as u32,
-        rows: down as u32,
     }
 }

@@ -1,25 +1,24 @@
 use grid::cells::stats_at;
 use records::parts::put_cell;
-use records::parts::put_header;
-use refusal::tests::grid_ok;
-use refusal::tests::side_ok;
+use refusal::refusals::grid_ok;
+use refusal::refusals::side_ok;
 ghost use mathlib.Core.Path.{_≡_};
 ghost use Prim.Native.Nat.{_%_, _≤_};
 ghost use lib.ListN.{length};
 ghost use lib.Seq.{sets};
 ghost use Rattle.grid.specs.Grid.{gridOf};
 ghost use Rattle.records.specs.Records.{headerBytes, fileBytes};
-ghost use Rattle.gridfile.specs.Writing.{cellRecords, writeRefusal, writeAnswer, writtenFile};
+ghost use Rattle.gridfile.specs.Writing.{cellRecords, writeRefusal};
 
-// A number of document 01 or 02, and how many bytes the file has.
+// 0 or a refusal, and how many bytes the file has.
 #[repr(C)]
 pub struct Written {
     pub code: u32,
     pub bytes: u64,
 }
 
-// The tests of numbers 1, 5 and 13, in this order.
-fn write_refusal(
+// The tests behind refusals 1, 5 and 13, in this order.
+pub(crate) fn write_refusal(
     width: usize,
     height: usize,
     rows: &[i16],
@@ -45,7 +44,7 @@ fn write_refusal(
 }
 
 // The records of the first `count` cells, behind the header, two a turn.
-fn put_cells(count: usize, rows: &[i16], cols: &[i16], sads: &[u32], file: &mut [u8])
+pub(crate) fn put_cells(count: usize, rows: &[i16], cols: &[i16], sads: &[u32], file: &mut [u8])
     requires { ⌜ (count ≤ length (now rows)) × (count ≤ length (now cols)) × (count ≤ length (now sads)) × (fileBytes count ≤ length (now file)) × (count % 2 ≡ 0) ⌝ }
     ensures { λ r. ⌜ now (file .exit) ≡ sets (now (file .entry)) headerBytes (cellRecords (gridOf (now (rows .entry)) (now (cols .entry)) (now (sads .entry))) 0 count) ⌝ }
 {
@@ -54,30 +53,5 @@ fn put_cells(count: usize, rows: &[i16], cols: &[i16], sads: &[u32], file: &mut 
         put_cell(4 + 10 * i, stats_at(rows, cols, sads, i), file);
         put_cell(4 + 10 * (i + 1), stats_at(rows, cols, sads, i + 1), file);
         i += 2;
-    }
-}
-
-#[no_mangle]
-pub extern "C" fn lockdapple_grid_write(
-    width: usize,
-    height: usize,
-    rows: &[i16],
-    cols: &[i16],
-    sads: &[u32],
-    file: &mut [u8],
-) -> Written
-    ensures { λ r. ⌜ r ≡ writeAnswer width height (gridOf (now (rows .entry)) (now (cols .entry)) (now (sads .entry))) (now (file .entry)) ⌝ }
-    ensures { λ r. ⌜ now (file .exit) ≡ writtenFile width height (gridOf (now (rows .entry)) (now (cols .entry)) (now (sads .entry))) (now (file .entry)) ⌝ }
-{
-    let code = write_refusal(width, height, rows, cols, sads, &*file);
-    if code != 0 {
-        return Written { code, bytes: 0 };
-    }
-    let count = (width / 4) * (height / 4);
-    put_header(width / 4, height / 4, file);
-    put_cells(count, rows, cols, sads, file);
-    Written {
-        code: 0,
-        bytes: (4 + 10 * count) as u64,
     }
 }

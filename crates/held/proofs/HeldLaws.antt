@@ -11,7 +11,7 @@ use borrow.Author.Tests.{leb-true, le-leb, eqb-true, eqb-false, eq-eqb, ne-eqb, 
 use lib.Dec.{leb, ltb, eqb}
 use lib.ListN.{length, getD, take, drop, length-take, length-append, take-append-drop}
 use lib.Seq.{take-at}
-use Rattle.motion.proofs.TestLaws.{tested, both}
+use Rattle.ground.proofs.TestLaws.{tested, both}
 use Rattle.records.specs.Records.{headerBytes, cellBytes}
 use Rattle.records.specs.Numbers.{OfBytes}
 use Rattle.records.proofs.NumberLaws.{bytes-front}

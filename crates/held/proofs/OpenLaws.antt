@@ -9,7 +9,7 @@ use borrow.Author.Tests.{eqb-true, eq-eqb, ne-eqb, ltb-true, leb-true, le-leb, l
 use lib.Dec.{leb, ltb, eqb}
 use lib.ListN.{length, take, replicate, length-take}
 use lib.Seq.{length-take-le}
-use Rattle.motion.proofs.TestLaws.{tested, both}
+use Rattle.ground.proofs.TestLaws.{tested, both}
 use Rattle.gridfile.specs.Reading.{between, begun, refusedAt}
 use Rattle.held.specs.declared.reader.Reader.{Reader}
 use Rattle.held.specs.Held.{plain, partBytes, readerOf, recordBytes, mostCells, shaped, stateOf, Settled}

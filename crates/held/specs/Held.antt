@@ -10,7 +10,7 @@ use Rattle.gridfile.specs.Reading.{State, begun, refusedAt}
 use Rattle.held.specs.declared.reader.Reader.{Reader}
 
 -- a state with no record begun
-abbrev pub plain : ℕ → ℕ → ℕ → ℕ → State
+abbrev pub plain : (code columns rows cells : ℕ) → State
 plain code columns rows cells = record { code = code; columns = columns; rows = rows; cells = cells; part = [] }
 
 -- how many bytes of a record there is place for

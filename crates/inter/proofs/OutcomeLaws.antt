@@ -1,4 +1,4 @@
--- What a run answers: after a refusal its number and the grid as it stood, else what is defined. Assumes nothing.
+-- What a run answers: the refusal and the grid as it stood, else what is defined. Assumes nothing.
 use mathlib.Core.Path.{_≡_, sym, _∙_}
 use mathlib.Core.List.{List}
 use Prim.Native.Nat.{ℕ}
@@ -12,12 +12,12 @@ use Rattle.frame.specs.Run.{frameRun}
 use Rattle.order.specs.List.{listRefusal}
 use Rattle.inter.specs.Runs.{runTests, runRefusal, runGrid}
 
-module _ (width height : ℕ) (cur ref : Planes) (present : ℕ) (prev : Grid) (list : List ℕ) (g : Grid) where
+module _ (width height : ℕ) (cur ref : Planes) (present : ℕ) (prev : Grid) (weight : ℕ) (list : List ℕ) (g : Grid) where
   -- a code, and the grid left with it, as a run has them
   abbrev pub RunAnswer : ℕ → Grid → Type 0
   RunAnswer code left =
       (code ≡ runRefusal width height cur ref present prev list g)
-      × (left ≡ runGrid width height cur ref present prev list g)
+      × (left ≡ runGrid width height cur ref present prev weight list g)
 
   run-stays : {code : ℕ} → code ≡ runRefusal width height cur ref present prev list g → (code ≡ 0 → ⊥) → RunAnswer code g
   unfolding runGrid
@@ -31,7 +31,7 @@ module _ (width height : ℕ) (cur ref : Planes) (present : ℕ) (prev : Grid) (
   unfolding runRefusal
   list-refused tests e h = run-stays (e ∙ sym (then-later _ _ tests)) h
 
-  pub run-done : {left : Grid} → runTests width height cur ref present prev g ≡ 0 → listRefusal (superblocksAlong width) (superblocksAlong height) list ≡ 0 → left ≡ frameRun width height cur ref 0 (previous present prev) list g → RunAnswer 0 left
+  pub run-done : {left : Grid} → runTests width height cur ref present prev g ≡ 0 → listRefusal (superblocksAlong width) (superblocksAlong height) list ≡ 0 → left ≡ frameRun width height cur ref weight (previous present prev) list g → RunAnswer 0 left
   unfolding runRefusal runGrid
   run-done tests listed e =
       let none : runRefusal width height cur ref present prev list g ≡ 0 = then-later _ _ tests ∙ listed in

@@ -6,14 +6,15 @@ use Prim.Native.Nat.{ℕ, _*_, _<_, _≤_}
 use native.Mathlib.Nat.{mul-le-mul}
 use native.Mathlib.Omega.{arith}
 use lib.ListN.{length, getD}
+use Rattle.ground.proofs.TestLaws.{both}
 use Rattle.motion.specs.Frame.{Side}
 use Rattle.motion.specs.Superblock.{superblocksAlong, superblocks}
-use Rattle.motion.proofs.TestLaws.{both}
 use Rattle.grid.specs.Grid.{Grid}
-use Rattle.refusal.specs.Tests.{refuse, _then_, sideOk, gridsHold}
+use Rattle.refusal.specs.Refusals.{refuse, _then_, sideOk, gridsHold}
 use Rattle.refusal.proofs.RefusalLaws.{first-passed, passes, none-of, side-of, lent}
 use Rattle.refusal.proofs.GridsLaws.{GridsHeld, grids-held}
-use Rattle.estimate.specs.Inputs.{Planes, planeAt, PlaneHeld}
+use Rattle.estimate.specs.Inputs.{Planes, planeAt}
+use Rattle.estimate.specs.Asked.{PlaneHeld}
 use Rattle.order.specs.List.{mostSuperblocks, listRefusal}
 use Rattle.order.proofs.Accepted.{accepted}
 use Rattle.inter.specs.Runs.{lentRefusal, runTests}
@@ -29,7 +30,7 @@ planes-held width height cur ref level e =
     let lent = lent width height level (length (planeAt cur level)) (length (planeAt ref level)) e in
     record { cur = lent .cur; ref = lent .ref }
 
--- what numbers 1, 4 and 5 leave of a run
+-- what refusals 1, 4 and 5 leave of a run
 pub record RunReady (width height : ℕ) (cur ref : Planes) (present : ℕ) (prev g : Grid) : Type 0 where
   pub wide : Side width
   pub high : Side height
@@ -63,7 +64,7 @@ few-superblocks {width} {height} wide high =
     let most = mul-le-mul {n₁ = superblocksAlong width} {m₁ = superblocksAlong height} {n₂ = 16} {m₂ = 16} (omega (arith, wide .most)) (omega (arith, high .most)) in
     (omega (arith, wide .least), omega (arith, most))
 
--- what numbers 6 and 7 leave: the list names superblocks of the frame alone
+-- what refusals 6 and 7 leave: the list names superblocks of the frame alone
 pub list-inside : (width height : ℕ) (list : List ℕ) → listRefusal (superblocksAlong width) (superblocksAlong height) list ≡ 0 → (k : ℕ) → k < length list → getD list k 0 < superblocks width height
 unfolding superblocks
 list-inside width height list e = accepted (superblocksAlong width) (superblocksAlong height) list e .below

@@ -1,2 +1,3 @@
-// The entry point on a frame: it asks nothing of its caller, and refuses by document 01's numbers instead.
+// The entry point on a frame: it asks nothing of its caller, and gives document 01's refusals instead.
+pub mod calls;
 pub mod runs;

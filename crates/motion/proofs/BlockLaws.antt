@@ -11,6 +11,7 @@ use lib.Pow.{pow-pos}
 use lib.Signed.{leZ, shrZ}
 use mir.Syntax.{w16}
 use mir.Val.{SFits}
+use Rattle.ground.proofs.Bias.{mag-neg}
 use Rattle.motion.specs.declared.level.Level.{Level}
 use Rattle.motion.specs.declared.range.MvRange.{MvRange}
 use Rattle.motion.specs.declared.vector.MotionVector.{MotionVector}
@@ -19,7 +20,6 @@ use Rattle.motion.specs.Vector.{FitsV, zeroV, shlV}
 use Rattle.motion.specs.Frame.{Side, Starts, Sized, own4, own3, own2, refined3, refined2}
 use Rattle.motion.specs.Range.{mvMin, mvMax, clip, rangeOf, within, inRange}
 use Rattle.motion.specs.Block.{croppedTo, blockOf}
-use Rattle.motion.proofs.Bias.{mag-neg}
 use Rattle.motion.proofs.RangeLaws.{within-parts, in-range-parts, below-by}
 use Rattle.motion.proofs.AxisLaws.{fitting, start-inside, crop-most, low-is, high-is}
 

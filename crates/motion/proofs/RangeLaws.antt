@@ -8,11 +8,11 @@ use lib.Dec.{leb}
 use lib.IntN.{ℤ, pos, negsuc, negℤ, _+ℤ_, _-ℤ_, _*ℤ_, negℤ-+ℤ, +ℤ-assoc, +ℤ-comm, +ℤ-negℤ-cancel, -ℤ-+ℤ-cancel}
 use lib.Signed.{leZ}
 use mir.Val.{sel}
+use Rattle.ground.proofs.TestLaws.{both}
 use Rattle.motion.specs.declared.vector.MotionVector.{MotionVector}
 use Rattle.motion.specs.declared.range.MvRange.{MvRange}
 use Rattle.motion.specs.Limits.{vectorLimit}
 use Rattle.motion.specs.Range.{mvMin, mvMax, clip, within, inRange}
-use Rattle.motion.proofs.TestLaws.{both}
 
 -- the minimum lies 32bx + 128 + 8bw below zero
 pub min-is : (b size : ℕ) → mvMin b size ≡ negℤ (pos (32 * b + 128 + 8 * size))

@@ -8,9 +8,10 @@ use lib.Signed.{mag}
 use mir.Syntax.{w16}
 use mir.Val.{SFits, toZ, ofZ}
 use mir.ValLaws.{toZ-ofZ}
+use Rattle.ground.proofs.Bias.{mag-add, mag-mul}
 use Rattle.motion.specs.declared.vector.MotionVector.{MotionVector}
-use Rattle.motion.specs.Vector.{FitsV, Near, plusV, timesV}
-use Rattle.motion.proofs.Bias.{mag-add, mag-mul}
+use Rattle.motion.specs.Vector.{FitsV, plusV, timesV}
+use Rattle.motion.specs.Asked.{Near}
 
 -- a vector of two numbers
 abbrev pub vector : ℤ → ℤ → MotionVector

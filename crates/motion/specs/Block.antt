@@ -20,7 +20,7 @@ unfoldable pub croppedTo : ℕ → ℕ → ℕ → ℕ
 croppedTo side size b = min size (side - cellSide * b)
 
 -- the block of `size` pixels at cell (bx, by): at shift s it is bw>>s by bh>>s, with the range of bw by bh
-unfoldable pub blockOf : ℕ → ℕ → Level → ℕ → ℕ → ℕ → Block
+unfoldable pub blockOf : (width height : ℕ) (l : Level) (size bx by : ℕ) → Block
 blockOf width height l size bx by =
     record {
       «po_x» = cellSide * bx / 2 ^ (l .ssdec);

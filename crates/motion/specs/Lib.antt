@@ -7,4 +7,5 @@ pub mod Level
 pub mod Block
 pub mod Frame
 pub mod Superblock
-pub mod Every
+-- what inner functions ask, and no reader need believe
+pub mod Asked

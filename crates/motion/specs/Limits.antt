@@ -23,3 +23,7 @@ vectorLimit = 16383
 -- a pixel is 8 units of a vector
 abbrev pub eighths : ℕ
 eighths = 8
+
+-- a sample is a number of at most 16 bits
+abbrev pub largestSample : ℕ
+largestSample = 65535

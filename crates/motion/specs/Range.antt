@@ -22,7 +22,7 @@ clip z =
     sel (leZ z (negℤ (pos vectorLimit))) (negℤ (pos vectorLimit)) (sel (leZ z (pos vectorLimit)) z (pos vectorLimit))
 
 -- both ends of columns and rows, clipped, then shifted right by s, arithmetically; the frame has W/4 columns and H/4 rows of cells
-unfoldable pub rangeOf : ℕ → ℕ → ℕ → ℕ → ℕ → ℕ → ℕ → MvRange
+unfoldable pub rangeOf : (columns rows bx by bw bh s : ℕ) → MvRange
 rangeOf columns rows bx by bw bh s =
     record {
       «mvx_min» = shrZ (clip (mvMin bx bw)) (2 ^ s);

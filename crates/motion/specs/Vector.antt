@@ -1,21 +1,15 @@
 -- Vectors are (row, col) in eighths of a pixel.
-use Prim.Native.Nat.{ℕ, _≤_, _^_}
-use lib.IntN.{ℤ, pos, natAbs, _+ℤ_, _*ℤ_}
+use Prim.Native.Nat.{ℕ, _^_}
+use lib.IntN.{ℤ, pos, _+ℤ_, _*ℤ_}
 use lib.Signed.{shrZ, quotZ}
 use mir.Syntax.{w16}
 use mir.Val.{SFits}
 use Rattle.motion.specs.declared.vector.MotionVector.{MotionVector}
-use Rattle.motion.specs.Limits.{vectorLimit}
 
 -- both components are signed 16-bit numbers
 pub record FitsV (v : MotionVector) : Type 0 where
   pub row : SFits w16 (v .row)
   pub col : SFits w16 (v .col)
-
--- both components are inside the vector limit
-pub record Near (v : MotionVector) : Type 0 where
-  pub row : natAbs (v .row) ≤ vectorLimit
-  pub col : natAbs (v .col) ≤ vectorLimit
 
 abbrev pub zeroV : MotionVector
 zeroV = record { row = pos 0; col = pos 0 }

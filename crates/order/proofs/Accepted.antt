@@ -10,8 +10,8 @@ use native.Mathlib.Omega.{arith}
 use borrow.Author.Tests.{ltb-true, lt-ltb, eqb-true, eqb-false}
 use lib.Dec.{ltb, eqb}
 use lib.ListN.{length, getD}
-use Rattle.motion.proofs.TestLaws.{not-so}
-use Rattle.motion.proofs.EveryLaws.{below-at, below-of}
+use Rattle.ground.proofs.TestLaws.{not-so}
+use Rattle.ground.proofs.EveryLaws.{below-at, below-of}
 use Rattle.order.specs.List.{times, namesEach, raster, before, sharesEdge, allEarlier, keepsRaster, listRefusal}
 use Rattle.order.proofs.EdgeLaws.{earlier-at, earlier-of}
 use Rattle.order.proofs.TimesLaws.{times-here, times-past, times-append, member-occurs, around, names-once, names-below, names-long, names-by, below-in, in-member}

@@ -9,8 +9,8 @@ use native.Mathlib.Numerals.{add-one}
 use native.Mathlib.Omega.{arith}
 use borrow.Author.Tests.{ltb-false, eqb-true, eqb-false, not-true, le-ltb, eq-eqb, ne-eqb}
 use lib.Dec.{ltb, eqb}
-use Rattle.motion.proofs.TestLaws.{both, tested, same, either}
-use Rattle.motion.proofs.EveryLaws.{below-at, below-of, below-same}
+use Rattle.ground.proofs.TestLaws.{both, tested, same, either}
+use Rattle.ground.proofs.EveryLaws.{below-at, below-of, below-same}
 use Rattle.order.specs.List.{sharesEdge, allEarlier}
 
 second : (s t : Bool) → s || t ≡ true → s ≡ false → t ≡ true

@@ -9,7 +9,7 @@ use native.Mathlib.Nat.{eq-or-lt-of-le, eq-zero-or-pos}
 use native.Mathlib.Omega.{arith}
 use borrow.Author.Tests.{lt-ltb, eq-eqb}
 use lib.Dec.{ltb, eqb}
-use Rattle.motion.proofs.TestLaws.{tested, not-so}
+use Rattle.ground.proofs.TestLaws.{tested, not-so}
 use Rattle.order.specs.List.{times, before, sharesEdge, raster}
 use Rattle.order.specs.Fold.{foldSteps, Alike, Commute, SameFold}
 use Rattle.order.proofs.EdgeLaws.{Follows, shares-follows}

@@ -10,11 +10,10 @@ use borrow.Author.Tests.{lt-ltb, eqb-true, eqb-false, eq-eqb, ne-eqb}
 use lib.Dec.{ltb, eqb}
 use lib.ListN.{length, getD, take, drop, length-append}
 use lib.Seq.{take-append-seam, getD-append-seam}
-use Rattle.motion.specs.Every.{allBelow}
-use Rattle.motion.proofs.TestLaws.{same}
-use Rattle.motion.proofs.EveryLaws.{below-at, below-of, below-same}
+use Rattle.ground.specs.Every.{allBelow}
+use Rattle.ground.proofs.TestLaws.{same}
+use Rattle.ground.proofs.EveryLaws.{below-at, below-of, below-same, in-of}
 use Rattle.order.specs.List.{times, namesEach, before, allEarlier, keepsRaster}
-use Rattle.order.proofs.AllLaws.{in-of}
 use Rattle.order.proofs.EdgeLaws.{earlier-same}
 use Rattle.order.proofs.TimesLaws.{times-here, times-past, times-split, names-once, names-below, in-member}
 

@@ -11,8 +11,8 @@ use borrow.Author.Tests.{eqb-true, eqb-false}
 use lib.Dec.{ltb, eqb}
 use lib.ListN.{length, getD, take, drop, set, replicate, length-set, getD-replicate}
 use lib.Seq.{take-length, getD-set-same, getD-set-other}
-use Rattle.motion.specs.Every.{allBelow}
-use Rattle.motion.proofs.TestLaws.{tested, not-so}
+use Rattle.ground.specs.Every.{allBelow}
+use Rattle.ground.proofs.TestLaws.{tested, not-so}
 use Rattle.order.specs.List.{mostSuperblocks, times, namesEach, allEarlier, listRefusal}
 use Rattle.order.proofs.EdgeLaws.{earlier-same}
 use Rattle.order.proofs.TimesLaws.{times-here, times-past, times-more, times-split, names-once, names-below, names-long, names-of}

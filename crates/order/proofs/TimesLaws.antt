@@ -11,11 +11,10 @@ use borrow.Author.Tests.{ltb-true, lt-ltb, eqb-true, eqb-false, eq-eqb, ne-eqb}
 use lib.Dec.{ltb, eqb}
 use lib.ListN.{length, getD, take, drop, take-append-drop}
 use lib.Seq.{take-suc, drop-cons}
-use Rattle.motion.specs.Every.{allBelow}
-use Rattle.motion.proofs.TestLaws.{both, tested}
-use Rattle.motion.proofs.EveryLaws.{below-at, below-of}
-use Rattle.order.specs.List.{times, allIn, namesEach}
-use Rattle.order.proofs.AllLaws.{in-at, in-of}
+use Rattle.ground.specs.Every.{allBelow, allIn}
+use Rattle.ground.proofs.TestLaws.{both, tested}
+use Rattle.ground.proofs.EveryLaws.{below-at, below-of, in-at, in-of}
+use Rattle.order.specs.List.{times, namesEach}
 
 pub times-here : (n : ℕ) (xs : List ℕ) → times n (n ∷ xs) ≡ suc (times n xs)
 unfolding times

@@ -7,7 +7,7 @@ use Prim.Native.Nat.{ℕ, _≤_, _<_}
 use Rattle.order.specs.List.{times, before}
 
 -- a step for each member, in list order
-unfoldable pub foldSteps : {G : Type 0} → (ℕ → G → G) → List ℕ → G → G
+unfoldable pub foldSteps : {G : Type 0} (step : ℕ → G → G) (list : List ℕ) (g : G) → G
 foldSteps step [] g = g
 foldSteps step (x ∷ xs) g = foldSteps step xs (step x g)
 

@@ -3,7 +3,7 @@ use Prim.Native.Nat.{ℕ, zero, suc, _+_, _*_, _%_}
 use mathlib.Core.Bool.{Bool, true, false, cond, not, _&&_, _||_}
 use mathlib.Core.List.{List, [], _∷_, _++_}
 use lib.Dec.{ltb, eqb}
-use Rattle.motion.specs.Every.{allBelow}
+use Rattle.ground.specs.Every.{allBelow, allIn}
 
 -- a frame of 1,024 by 1,024 has 16 rows of 16 superblocks
 abbrev pub mostSuperblocks : ℕ
@@ -13,11 +13,6 @@ mostSuperblocks = 256
 unfoldable pub times : ℕ → List ℕ → ℕ
 times n [] = 0
 times n (x ∷ xs) = cond (eqb x n) 1 0 + times n xs
-
--- whether a test holds of every member of a list
-unfoldable pub allIn : List ℕ → (ℕ → Bool) → Bool
-allIn [] test = true
-allIn (x ∷ xs) test = test x && allIn xs test
 
 -- each number below n exactly once, and nothing else
 unfoldable pub namesEach : ℕ → List ℕ → Bool

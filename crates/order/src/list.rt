@@ -17,7 +17,7 @@ fn neighbours_seen(across: usize, n: usize, seen: &[u8; MOST_SUPERBLOCKS]) -> bo
     left && above
 }
 
-// 0, or the number with which a frame run refuses a list of superblocks.
+// 0, or the refusal that a frame run gives to a list of superblocks.
 pub fn list_refusal(across: usize, down: usize, list: &[u16]) -> u32
     requires { ⌜ (0 < across) × (across * down ≤ mostSuperblocks) ⌝ }
     ensures { λ r. ⌜ r ≡ listRefusal across down (now (list .entry)) ⌝ }

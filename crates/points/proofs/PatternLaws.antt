@@ -10,14 +10,15 @@ use lib.Dec.{leb, ltb, lit≤}
 use lib.IntN.{pos, negsuc, _-ℤ_}
 use lib.ListN.{getD}
 use lib.Signed.{mag}
+use Rattle.ground.proofs.Bias.{mag-add, mag-mul}
+use Rattle.ground.proofs.TestLaws.{both}
 use Rattle.motion.specs.declared.vector.MotionVector.{MotionVector}
 use Rattle.motion.specs.Vector.{zeroV, timesV, shlV}
-use Rattle.motion.proofs.Bias.{mag-add, mag-mul}
-use Rattle.motion.proofs.TestLaws.{both}
 use Rattle.motion.proofs.VectorLaws.{Short, times-short}
 use Rattle.points.specs.declared.patterns.Pattern.{Pattern}
 use Rattle.points.specs.declared.patterns.Pattern.the-variants.{Diamond, Square, RowLine, ColLine, Eighths, Umh}
-use Rattle.points.specs.Patterns.{diamondTable, squareTable, umhTable, rowTable, colTable, eighthsPlace, offset, points, Plain, Slight}
+use Rattle.points.specs.Patterns.{diamondTable, squareTable, umhTable, rowTable, colTable, eighthsPlace, offset, points}
+use Rattle.points.specs.Asked.{Plain, Slight}
 
 abbrev slight : MotionVector → Bool
 slight v = leb (mag (v .row)) 32 && leb (mag (v .col)) 32

@@ -9,9 +9,10 @@ use lib.IntN.{ℤ, pos, negsuc, negℤ, natAbs, _+ℤ_, _-ℤ_, _*ℤ_}
 use lib.Signed.{mag, ltZ, quotZ, shrZ}
 use mir.Syntax.{w16}
 use mir.Val.{SFits}
-use Rattle.motion.proofs.Bias.{bias, Small, mag-neg, mag-negℤ, mag-add, small-by, bias-add, bias-minus, leZ-bias, ltZ-bias, up-bias}
-use Rattle.motion.proofs.Words.{shr-fits, eighth-bounds}
-use Rattle.points.specs.Window.{larger, smaller, spanCount, refineSpan, Spanned}
+use Rattle.ground.proofs.Bias.{bias, Small, mag-neg, mag-negℤ, mag-add, small-by, bias-add, bias-minus, leZ-bias, ltZ-bias, up-bias}
+use Rattle.ground.proofs.Words.{shr-fits, eighth-bounds}
+use Rattle.points.specs.Window.{larger, smaller, spanCount, refineSpan}
+use Rattle.points.specs.Asked.{Spanned}
 
 module _ {z : ℤ} (f : SFits w16 z) where
   pub word-small : Small z

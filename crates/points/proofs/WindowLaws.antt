@@ -7,12 +7,12 @@ use borrow.Author.Tests.{leb-true, le-leb}
 use lib.IntN.{ℤ, pos, negsuc, _+ℤ_, _*ℤ_}
 use mir.Syntax.{w16}
 use mir.Val.{SFits}
+use Rattle.ground.proofs.Bias.{bias, Small, bias-negpos, bias-quot-up, bias-quot-down, leZ-bias}
+use Rattle.ground.proofs.Words.{eighth-bounds}
 use Rattle.motion.specs.declared.vector.MotionVector.{MotionVector}
 use Rattle.motion.specs.declared.range.MvRange.{MvRange}
 use Rattle.motion.specs.Vector.{FitsV}
 use Rattle.motion.specs.Range.{within, inRange}
-use Rattle.motion.proofs.Bias.{bias, Small, bias-negpos, bias-quot-up, bias-quot-down, leZ-bias}
-use Rattle.motion.proofs.Words.{eighth-bounds}
 use Rattle.motion.proofs.BlockLaws.{Ends, Straddles}
 use Rattle.points.specs.Window.{refineSpan, spanAt, refineWindow}
 use Rattle.points.proofs.SpanLaws.{word-small, moved, span-fits, lo-fits, between, refine-spanned}

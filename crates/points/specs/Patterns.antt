@@ -1,10 +1,9 @@
 -- The patterns: fixed tables, in the order of source document 000, in whole pixels.
-use Prim.Native.Nat.{ℕ, _+_, _*_, _/_, _%_, _≤_}
+use Prim.Native.Nat.{ℕ, _+_, _*_, _/_, _%_}
 use mathlib.Core.Bool.{cond}
 use mathlib.Core.List.{List, [], _∷_}
 use lib.Dec.{ltb}
 use lib.IntN.{ℤ, pos, negℤ, _-ℤ_, _*ℤ_}
-use lib.Signed.{mag}
 use lib.ListN.{getD}
 use Rattle.motion.specs.declared.vector.MotionVector.{MotionVector}
 use Rattle.motion.specs.Limits.{eighths}
@@ -73,20 +72,6 @@ points RowLine = 24
 points ColLine = 12
 points Eighths = 24
 points Umh = 96
-
--- a diamond has radius 1 or 2 pixels
-unfoldable pub Plain : Pattern → Type 0
-Plain (Diamond r) = r ≤ 1
-Plain Square = Unit {0}
-Plain RowLine = Unit {0}
-Plain ColLine = Unit {0}
-Plain Eighths = Unit {0}
-Plain Umh = Unit {0}
-
--- an offset of at most four pixels, as every table's are
-pub record Slight (v : MotionVector) : Type 0 where
-  pub row : mag (v .row) ≤ 32
-  pub col : mag (v .col) ≤ 32
 
 -- a pattern's point round a centre
 unfoldable pub pointOf : Pattern → MotionVector → ℕ → MotionVector

@@ -1,10 +1,9 @@
 -- Windows of whole pixels, and the window of a refinement.
-use mathlib.Core.Path.{_≡_}
-use mathlib.Core.Bool.{Bool, true, cond, _&&_}
-use Prim.Native.Nat.{ℕ, _≤_, _^_}
+use mathlib.Core.Bool.{Bool, cond, _&&_}
+use Prim.Native.Nat.{ℕ, _^_}
 use lib.Dec.{ltb}
-use lib.IntN.{ℤ, pos, negℤ, natAbs, _+ℤ_, _-ℤ_, _*ℤ_}
-use lib.Signed.{ltZ, leZ, quotZ, shrZ}
+use lib.IntN.{ℤ, pos, natAbs, _+ℤ_, _-ℤ_, _*ℤ_}
+use lib.Signed.{ltZ, quotZ, shrZ}
 use Rattle.motion.specs.declared.vector.MotionVector.{MotionVector}
 use Rattle.motion.specs.declared.range.MvRange.{MvRange}
 use Rattle.motion.specs.Limits.{eighths}
@@ -22,7 +21,7 @@ unfoldable pub spanCount : ℤ → ℤ → ℕ
 spanCount lo hi = cond (ltZ hi lo) 0 (natAbs (hi -ℤ lo +ℤ pos 1))
 
 -- with m the stored component, >> s, then /8 toward zero: from max(m−1, min/8) to min(m+2, max/8)
-unfoldable pub refineSpan : ℤ → ℤ → ℤ → ℕ → Span
+unfoldable pub refineSpan : (min max stored : ℤ) (s : ℕ) → Span
 refineSpan min max stored s =
     let m = quotZ (shrZ stored (2 ^ s)) (pos eighths) in
     let lo = larger (m -ℤ pos 1) (quotZ min (pos eighths)) in
@@ -32,12 +31,6 @@ refineSpan min max stored s =
 -- the component is eight times the offset
 unfoldable pub spanAt : ℤ → ℕ → ℤ
 spanAt lo k = pos eighths *ℤ (lo +ℤ pos k)
-
--- offsets of whole pixels that 16 bits hold in eighths
-pub record Spanned (lo : ℤ) (k : ℕ) : Type 0 where
-  pub least : leZ (negℤ (pos 4096)) lo ≡ true
-  pub most : leZ (lo +ℤ pos k) (pos 4095) ≡ true
-  pub few : k ≤ 8192
 
 -- rows likewise
 unfoldable pub refineWindow : MvRange → MotionVector → ℕ → Window

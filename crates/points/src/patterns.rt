@@ -2,8 +2,10 @@ use motion::vector::MotionVector;
 ghost use mathlib.Core.Path.{_≡_};
 ghost use Prim.Native.Nat.{_≤_, _<_};
 ghost use lib.IntN.{pos};
-ghost use Rattle.motion.specs.Vector.{Near, timesV};
-ghost use Rattle.points.specs.Patterns.{Slight, Plain, eighthsPlace, offset, points, pointOf, hexagonPoint};
+ghost use Rattle.motion.specs.Vector.{timesV};
+ghost use Rattle.motion.specs.Asked.{Near};
+ghost use Rattle.points.specs.Patterns.{eighthsPlace, offset, points, pointOf, hexagonPoint};
+ghost use Rattle.points.specs.Asked.{Slight, Plain};
 
 const DIAMOND_R1_PATTERN: [MotionVector; 4] = [
     MotionVector { row: 8, col: 0 },

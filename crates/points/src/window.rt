@@ -4,7 +4,8 @@ ghost use mathlib.Core.Path.{_≡_};
 ghost use Prim.Native.Nat.{_≤_, _<_};
 ghost use lib.IntN.{pos};
 ghost use lib.Signed.{mag, quotZ};
-ghost use Rattle.points.specs.Window.{Spanned, larger, smaller, spanCount, spanAt, refineSpan, refineWindow, windowOk};
+ghost use Rattle.points.specs.Window.{larger, smaller, spanCount, spanAt, refineSpan, refineWindow, windowOk};
+ghost use Rattle.points.specs.Asked.{Spanned};
 
 // So many whole pixels of one axis, from the first.
 pub struct Span {

@@ -32,7 +32,7 @@ unfoldable pub predictor : MvRange → ℕ → MotionVector → MotionVector
 predictor r s v = shrV (clampV r (fullpelV v)) s
 
 -- the predictors of some cells of a grid
-unfoldable pub predictorsAt : MvRange → ℕ → Grid → List ℕ → List MotionVector
+unfoldable pub predictorsAt : (r : MvRange) (s : ℕ) (g : Grid) (is : List ℕ) → List MotionVector
 predictorsAt r s g is = map (λ i. predictor r s (statsAt g i .mv)) is
 
 -- the normalised SADs of some cells of a grid
@@ -53,12 +53,12 @@ unfoldable pub stopThreshold : ℕ → ℕ → ℕ
 stopThreshold minSad area = minSad * 6 / 5 + area
 
 -- what sampling some cells gives: at most five vectors, their count, and the least SAD
-unfoldable pub subsetOf : MvRange → ℕ → Grid → List ℕ → Subset
+unfoldable pub subsetOf : (r : MvRange) (s : ℕ) (g : Grid) (is : List ℕ) → Subset
 subsetOf r s g is =
     record { count = length is; mvs = slotted zeroV (predictorsAt r s g is); least = leastOf (sadsAt g is) }
 
 -- the predictors of the block at cell (bx, by), from the grid as it stands and the previous one
-unfoldable pub subsetsOf : ℕ → ℕ → ℕ → ℕ → ℕ → Bool → Grid → Grid → MotionEstimationSubsets
+unfoldable pub subsetsOf : (width height level bx by : ℕ) (present : Bool) (prev g : Grid) → MotionEstimationSubsets
 subsetsOf width height level bx by present prev g =
     let b = blockOf width height (levelOf level) (levelOf level .«mv_size») bx by in
     let s = levelOf level .ssdec in

@@ -4,7 +4,7 @@
 //     X Y ROW COL SAD           a line for each cell, row by row
 //
 // or `refused NUMBER` where the run is refused.
-use inter::runs::lockdapple_frame_run;
+use inter::calls::lockdapple_frame_run;
 use print::grid;
 use print::labelled;
 use print::text;

@@ -7,7 +7,7 @@ use native.Mathlib.Omega.{arith}
 use borrow.Author.Tests.{eq-eqb, ne-eqb, lt-ltb, le-leb, lt-leb}
 use lib.Dec.{leb, ltb, eqb}
 use Rattle.grid.specs.Grid.{Grid, room}
-use Rattle.refusal.specs.Tests.{refuse}
+use Rattle.refusal.specs.Refusals.{refuse}
 use Rattle.refusal.proofs.RefusalLaws.{then-later}
 use Rattle.gridfile.specs.Reading.{State, refusedAt, taken, kept, whole, ended}
 use Rattle.held.specs.declared.reader.Reader.{Reader}

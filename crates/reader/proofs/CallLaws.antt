@@ -8,7 +8,7 @@ use Prim.Native.Nat.{ℕ}
 use native.Mathlib.Omega.{arith}
 use borrow.Author.Tests.{leb-true, leb-false, eqb-true, eqb-false, eq-eqb, ne-eqb, not-true, not-false}
 use lib.Dec.{eqb}
-use Rattle.motion.proofs.TestLaws.{tested, both, not-so}
+use Rattle.ground.proofs.TestLaws.{tested, both, not-so}
 use Rattle.grid.specs.Grid.{Grid, room}
 use Rattle.refusal.proofs.RefusalLaws.{first-passed, passes, then-first, none-of}
 use Rattle.records.specs.Numbers.{OfBytes}
@@ -141,7 +141,7 @@ module _ (s : State) (fragment : List ℕ) (g : Grid) where
     sound-from ok =
         by-test Sound (tooShort s g) _ _ (λ t. sound-refused (λ z. absurd (omega arith)) refl) (λ t. sound-taken (room g) s fragment part ofBytes ok)
 
--- the last call: its number, and that it leaves the shape
+-- the last call: its refusal, and that it leaves the shape
 module _ (s : State) where
   pub refused-end : (s .code ≡ 0 → ⊥) → s .part ≡ [] → endedFrom s ≡ s
   unfolding endedFrom ended refusedAt

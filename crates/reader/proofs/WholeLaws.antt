@@ -6,9 +6,9 @@ use Prim.Native.Nat.{ℕ, _+_, _*_, _≤_, _<_}
 use native.Mathlib.Omega.{arith}
 use lib.ListN.{length, take}
 use lib.Seq.{slice, take-add}
+use Rattle.ground.proofs.ListLaws.{take-drop}
 use Rattle.grid.specs.Grid.{Grid, withCell}
 use Rattle.records.specs.Records.{mark, cellBytes, cellOf}
-use Rattle.records.proofs.NumberLaws.{take-drop}
 use Rattle.gridfile.specs.Reading.{State, between, taken, kept}
 use Rattle.gridfile.proofs.TakenLaws.{taken-append, kept-append, record-taken, record-kept}
 use Rattle.gridfile.proofs.MarkLaws.{markedAt, eight, eight-long, record-bytes}

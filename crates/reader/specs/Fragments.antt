@@ -1,4 +1,4 @@
--- However a file is cut, the cells, the final state and the number are those of one fragment.
+-- However a file is cut, the cells, the final state and the refusal are those of one fragment.
 use mathlib.Core.Path.{_≡_}
 use mathlib.Core.List.{List, [], _∷_, _++_}
 use Prim.Native.Nat.{ℕ, suc, _≤_, _<_}
@@ -30,7 +30,7 @@ abbrev pub AnyCuts : Type 0
 AnyCuts =
     (r : Reader) (f : List ℕ) (fs : List (List ℕ)) (g : Grid) → OfBytes (r .part) → OfBytes (joined (f ∷ fs)) → (takeAll r (f ∷ fs) g ≡ takeReader r (joined (f ∷ fs)) g) × (gridAll r (f ∷ fs) g ≡ takeGrid r (joined (f ∷ fs)) g)
 
--- after a refusal further calls change nothing and repeat its number
+-- after a refusal further calls change nothing and repeat it
 pub record Stays (r : Reader) : Type 0 where
   pub take : (f : List ℕ) (g : Grid) → takeReader r f g ≡ r
   pub grid : (f : List ℕ) (g : Grid) → takeGrid r f g ≡ g
@@ -40,7 +40,7 @@ abbrev pub RefusalStays : Type 0
 RefusalStays =
     ((r : Reader) (f : List ℕ) (g : Grid) → (takeReader r f g .code ≡ 0 → ⊥) → Stays (takeReader r f g)) × ((r : Reader) → (endReader r .code ≡ 0 → ⊥) → Stays (endReader r))
 
--- a whole file and the end call: the number is that of reading in one piece; where it is 0, so are the shape and the grid
+-- a whole file and the end call: the refusal is that of reading in one piece; where it is 0, so are the shape and the grid
 pub record AsOne (file : List ℕ) (g : Grid) : Type 0 where
   pub number : endReader (takeReader newReader file g) .code ≡ readRefusal file g
   pub columns : readRefusal file g ≡ 0 → endReader (takeReader newReader file g) .columns ≡ readAnswer file g .columns

@@ -3,14 +3,14 @@
 use mathlib.Core.Path.{_≡_, refl, sym, ap, ap₂, _∙_}
 use mathlib.Core.List.{List, [], _∷_, _++_}
 use Prim.Native.Nat.{ℕ, zero, suc, _+_, _-_, _*_, _/_, _^_, _≤_, _<_}
-use native.Mathlib.Nat.{zero-add, suc-add, add-assoc, pow-suc}
+use native.Mathlib.Nat.{add-assoc, pow-suc}
 use native.Mathlib.Numerals.{add-one, add-two}
 use native.Mathlib.Omega.{arith}
 use lib.ListN.{length, getD, take, drop, take-append-drop}
-use lib.Seq.{sets, slice, take-nil, take-take, drop-drop, slice-empty, slice-cons, length-slice, getD-drop}
+use lib.Seq.{sets, slice, slice-empty, slice-cons, length-slice, getD-drop}
 use mir.Syntax.{w8}
 use mir.Val.{Fits}
-use Rattle.motion.proofs.ListLaws.{sets-append}
+use Rattle.ground.proofs.ListLaws.{sets-append}
 use Rattle.records.specs.Numbers.{OfBytes, bytesOf, numberOf}
 
 pub length-bytes : (count n : ℕ) → length (bytesOf count n) ≡ count
@@ -27,15 +27,6 @@ pub bytes-behind : (count n m : ℕ) → n < 2 ^ 16 → bytesOf (suc (suc count)
 unfolding bytesOf
 bytes-behind count n m h =
     ap₂ _∷_ (omega arith) (ap₂ _∷_ (omega arith) (ap (bytesOf count) (omega arith)))
-
--- a part of a part
-pub take-drop : (n t : ℕ) (l : List ℕ) → take t (drop n l) ≡ drop n (take (n + t) l)
-take-drop zero t l = rw zero-add
-take-drop (suc n) t [] = rw suc-add (take-nil t)
-take-drop (suc n) t (x ∷ l) = rw suc-add (take-drop n t l)
-
-pub slice-slice : (l : List ℕ) (at end f n : ℕ) → at + (f + n) ≤ end → slice (at + f) (at + f + n) l ≡ slice f (f + n) (slice at end l)
-slice-slice l at end f n h = rw (take-drop at (f + n) (take end l), take-take, drop-drop, add-assoc)
 
 -- the number in bytes, two bytes at a time
 module _ (l : List ℕ) (at : ℕ) where

@@ -4,10 +4,10 @@ use mathlib.Core.Bool.{Bool, true, false, not, _||_}
 use Prim.Native.Nat.{ℕ}
 use native.Mathlib.Omega.{arith}
 use lib.Dec.{eqb}
-use Rattle.motion.proofs.TestLaws.{both}
+use Rattle.ground.proofs.TestLaws.{both}
 use Rattle.grid.specs.Grid.{Grid, Held}
 use Rattle.grid.specs.Previous.{HeldIf, previous}
-use Rattle.refusal.specs.Tests.{gridHolds, gridsHold}
+use Rattle.refusal.specs.Refusals.{gridHolds, gridsHold}
 use Rattle.refusal.proofs.RefusalLaws.{held}
 
 -- the grid, and a previous grid that is said to be present, hold the frame's cells

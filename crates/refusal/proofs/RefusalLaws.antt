@@ -7,14 +7,14 @@ use native.Mathlib.Omega.{arith}
 use borrow.Author.Tests.{leb-true, ltb-true, eqb-true}
 use lib.Dec.{leb, ltb, eqb}
 use lib.ListN.{length}
+use Rattle.ground.proofs.TestLaws.{both, either}
 use Rattle.motion.specs.Limits.{sideStep, largestSide, cellSide}
 use Rattle.motion.specs.Level.{level4, level3, level2, levelOf}
 use Rattle.motion.specs.Frame.{Side, Starts, Sized, Placed, own4, own3, own2, refined3, refined2}
 use Rattle.motion.specs.Block.{planeOf}
-use Rattle.motion.proofs.TestLaws.{both, either}
 use Rattle.motion.proofs.LevelLaws.{each-level}
 use Rattle.grid.specs.Grid.{Grid, Held, cells}
-use Rattle.refusal.specs.Tests.{refuse, _then_, sideOk, levelOk, sizeOf, startOk, planeOk, blockRefusal, planesRefusal, gridOk, gridHolds}
+use Rattle.refusal.specs.Refusals.{refuse, _then_, sideOk, levelOk, sizeOf, startOk, planeOk, blockRefusal, planesRefusal, gridOk, gridHolds}
 
 -- no number at all: the first test passed, and no later one refused
 pub first-passed : (n : ℕ) (t : Bool) (later : ℕ) → refuse (suc n) t then later ≡ 0 → (t ≡ true) × (later ≡ 0)
@@ -90,7 +90,7 @@ sized-of level refined h =
     at : (m n : ℕ) → m ≡ n → Sized (levelOf n) (sizeOf n refined) → Sized (levelOf m) (sizeOf m refined)
     at m n e s = subst (λ (k : ℕ). Sized (levelOf k) (sizeOf k refined)) (sym e) s
 
--- what numbers 1 to 3 leave
+-- what refusals 1 to 3 leave
 pub accepted : (width height level refined bx by : ℕ) → blockRefusal width height level refined bx by ≡ 0 → Placed width height (levelOf level) (sizeOf level refined) bx by
 unfolding blockRefusal
 accepted width height level refined bx by e =
@@ -108,7 +108,7 @@ accepted width height level refined bx by e =
       down = starts-of height size by (three .1);
     }
 
--- what number 4 leaves
+-- what refusal 4 leaves
 pub record Lent (width height level n m : ℕ) : Type 0 where
   pub cur : planeOf width height (levelOf level) .stride * planeOf width height (levelOf level) .rows ≤ n
   pub ref : planeOf width height (levelOf level) .stride * planeOf width height (levelOf level) .rows ≤ m
@@ -128,7 +128,7 @@ planes-short width height level n m h = go (planeOk width height level n && plan
     go true h = absurd (h refl)
     go false h = refl
 
--- what number 5 leaves
+-- what refusal 5 leaves
 pub held : (width height : ℕ) (g : Grid) → gridHolds width height g ≡ true → Held width height g
 unfolding gridHolds gridOk
 held width height g e =

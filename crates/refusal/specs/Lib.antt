@@ -1,2 +1,2 @@
--- What a reader must believe of the tests behind the refusals' numbers.
-pub mod Tests
+-- What a reader must believe of the tests behind the refusals.
+pub mod Refusals

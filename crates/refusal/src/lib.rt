@@ -1,2 +1,2 @@
-// The tests behind the refusals' numbers: sides, level, block start, planes and grid.
-pub mod tests;
+// The tests behind the refusals: sides, level, block start, planes and grid.
+pub mod refusals;

@@ -1,12 +1,12 @@
 use crate::columns::Call;
 use crate::grids::LARGEST_GRID;
 use crate::grids::cell;
-use searches::refinement::lockdapple_refine;
-use searches::searches::lockdapple_diamond;
-use searches::searches::lockdapple_hexagon;
-use searches::searches::lockdapple_multi_hexagon;
+use searches::calls::lockdapple_diamond;
+use searches::calls::lockdapple_hexagon;
+use searches::calls::lockdapple_multi_hexagon;
+use searches::calls::lockdapple_refine;
+use single::calls::lockdapple_candidate;
 use single::found::Found;
-use single::leaves::lockdapple_candidate;
 ghost use Rattle.replay.specs.Call.{Drawable};
 
 // What the cells that no case stores hold: a refinement round it has an empty window.

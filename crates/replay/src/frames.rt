@@ -7,7 +7,7 @@ use crate::grids::sum;
 use crate::planes::HALF;
 use crate::planes::QUARTER;
 use crate::planes::from_plane;
-use inter::runs::lockdapple_frame_run;
+use inter::calls::lockdapple_frame_run;
 use single::found::Found;
 ghost use Prim.Native.Nat.{_≤_, _<_};
 ghost use lib.ListN.{length};

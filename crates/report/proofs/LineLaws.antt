@@ -9,7 +9,7 @@ use native.Mathlib.Nat.{lt-of-lt-of-le, mod-lt, div-lt-iff-lt-mul}
 use native.Mathlib.Omega.{arith}
 use lib.Dec.{ltb}
 use lib.ListN.{length, length-append}
-use Rattle.motion.proofs.TestLaws.{tested}
+use Rattle.ground.proofs.TestLaws.{tested}
 use Rattle.grid.specs.declared.cells.MEStats.{MEStats}
 use Rattle.grid.specs.Grid.{Grid, statsAt}
 use Rattle.records.specs.Records.{FitsCell}

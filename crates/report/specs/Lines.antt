@@ -27,11 +27,11 @@ unfoldable pub cellText : MEStats → List ℕ
 cellText c = signed (c .mv .row) ␣ signed (c .mv .col) ␣ decimal (c .«normalized_sad»)
 
 -- for a differing cell `x y`, then row, col and SAD of the first, then of the second
-unfoldable pub cellLine : ℕ → ℕ → MEStats → MEStats → List ℕ
+unfoldable pub cellLine : (across i : ℕ) (first second : MEStats) → List ℕ
 cellLine across i first second = line (placeText across i ␣ cellText first ␣ cellText second)
 
 -- the lines of some places of two grids, one behind the other
-unfoldable pub linesOf : ℕ → Grid → Grid → List ℕ → List ℕ
+unfoldable pub linesOf : (across : ℕ) (f g : Grid) (places : List ℕ) → List ℕ
 linesOf across f g [] = []
 linesOf across f g (i ∷ places) = cellLine across i (statsAt f i) (statsAt g i) ++ linesOf across f g places
 
@@ -40,7 +40,7 @@ unfoldable pub lastLine : ℕ → ℕ → List ℕ
 lastLine n m = line (ascii "differ" ␣ decimal n ␣ ascii "of" ␣ decimal m)
 
 -- the lines of all places that differ, then the last
-unfoldable pub reportOf : ℕ → ℕ → Grid → Grid → List ℕ
+unfoldable pub reportOf : (across cells : ℕ) (f g : Grid) → List ℕ
 reportOf across cells f g =
     let places = differing f g 0 cells in
     linesOf across f g places ++ lastLine (length places) cells

@@ -12,14 +12,14 @@ use lib.Signed.{shrZ, nonNeg}
 use Rattle.motion.specs.declared.level.Level.{Level}
 use Rattle.motion.specs.declared.vector.MotionVector.{MotionVector}
 use Rattle.motion.specs.Limits.{cellSide, vectorLimit}
-use Rattle.motion.specs.Vector.{Near}
+use Rattle.motion.specs.Asked.{Near}
 use Rattle.motion.specs.Frame.{Side, Starts, Sized}
 use Rattle.motion.specs.Range.{mvMin, mvMax, clip, rangeOf, within, inRange}
 use Rattle.motion.specs.Block.{planeOf, croppedTo, blockOf}
 use Rattle.motion.proofs.RangeLaws.{pos-minus, within-parts, in-range-parts, below-by}
 use Rattle.motion.proofs.AxisLaws.{Fitting, fitting, start-inside, crop-most, room, inside, low-is, high-is}
-use Rattle.sad.specs.Sad.{Inside}
-use Rattle.sad.specs.Plane.{moved, orgStart, refStart, Measured, Lies}
+use Rattle.sad.specs.Asked.{Inside, Measured, Lies}
+use Rattle.sad.specs.Plane.{moved, orgStart, refStart}
 use Rattle.sad.proofs.Places.{sample-is}
 
 -- where a vector's component moves a coordinate to, on an axis of a plane

@@ -7,16 +7,18 @@ use native.Mathlib.Nat.{le-trans, mul-le-mul, mul-le-mul-left, mul-le-mul-right}
 use native.Mathlib.Omega.{arith}
 use Rattle.motion.specs.declared.block.Block.{Block}
 use Rattle.motion.specs.declared.vector.MotionVector.{MotionVector}
+use Rattle.motion.specs.Limits.{largestSample}
 use Rattle.motion.specs.Range.{inRange}
 use Rattle.motion.proofs.RateLaws.{rateV-le}
-use Rattle.sad.specs.Sad.{sadBlock, Inside, largestBlock}
-use Rattle.sad.specs.Plane.{orgStart, refStart, Measured, Lies}
+use Rattle.sad.specs.Sad.{sadBlock}
+use Rattle.sad.specs.Asked.{Inside, largestBlock, Measured, Lies}
+use Rattle.sad.specs.Plane.{orgStart, refStart}
 use Rattle.sad.specs.Cost.{emptyRd, rdOf, sadAt, rdAt}
 use Rattle.sad.proofs.Sums.{Under, block-le}
 
 -- the largest sum that a block of bytes has
 abbrev pub mostSad : ℕ
-mostSad = 255 * largestBlock * largestBlock
+mostSad = largestSample * largestBlock * largestBlock
 
 module _ (b : Block) (cur ref : List ℕ) (weight : ℕ) (v : MotionVector) where
   pub rd-in : inRange (b .range) v ≡ true → rdAt b cur ref weight v ≡ rdOf weight (sadAt b cur ref v) v
@@ -27,13 +29,13 @@ module _ (b : Block) (cur ref : List ℕ) (weight : ℕ) (v : MotionVector) wher
   unfolding rdAt
   rd-out h = ap (λ (t : Bool). cond t (rdOf weight (sadAt b cur ref v) v) emptyRd) h
 
-  -- bytes differ by at most 255
-  pub sad-area : Under 255 cur → Under 255 ref → sadAt b cur ref v ≤ 255 * b .w * b .h
+  -- samples differ by at most 65,535
+  pub sad-area : Under largestSample cur → Under largestSample ref → sadAt b cur ref v ≤ largestSample * b .w * b .h
   unfolding sadAt
-  sad-area hc hr = block-le 255 cur ref hc hr (orgStart b) (refStart b v) (b .stride) (b .w) (b .h)
+  sad-area hc hr = block-le largestSample cur ref hc hr (orgStart b) (refStart b v) (b .stride) (b .w) (b .h)
 
-  pub sad-most : Measured b → Under 255 cur → Under 255 ref → sadAt b cur ref v ≤ mostSad
-  sad-most m hc hr = le-trans (sad-area hc hr) (mul-le-mul {m₁ = b .h} {n₂ = 255 * largestBlock} (mul-le-mul-left 255 (m .wide)) (m .high))
+  pub sad-most : Measured b → Under largestSample cur → Under largestSample ref → sadAt b cur ref v ≤ mostSad
+  sad-most m hc hr = le-trans (sad-area hc hr) (mul-le-mul {m₁ = b .h} {n₂ = largestSample * largestBlock} (mul-le-mul-left largestSample (m .wide)) (m .high))
 
 -- a cost stays far below the largest u64, which only a vector out of range has
 pub cost-most : (weight sad : ℕ) (v : MotionVector) → weight < 2 ^ 32 → sad < 2 ^ 32 → rdOf weight sad v .cost < 2 ^ 41
@@ -41,7 +43,7 @@ unfolding rdOf
 cost-most weight sad v hw hs = omega (arith, mul-le-mul-right weight (rateV-le v))
 
 -- in range, a block of bytes costs that little
-pub in-range-most : (b : Block) (cur ref : List ℕ) (weight : ℕ) (v : MotionVector) → Measured b → Under 255 cur → Under 255 ref → weight < 2 ^ 32 → inRange (b .range) v ≡ true → rdAt b cur ref weight v .cost < 2 ^ 41
+pub in-range-most : (b : Block) (cur ref : List ℕ) (weight : ℕ) (v : MotionVector) → Measured b → Under largestSample cur → Under largestSample ref → weight < 2 ^ 32 → inRange (b .range) v ≡ true → rdAt b cur ref weight v .cost < 2 ^ 41
 in-range-most b cur ref weight v m hc hr hw h =
     rw (rd-in b cur ref weight v h) (cost-most weight (sadAt b cur ref v) v hw (omega (arith, sad-most b cur ref weight v m hc hr)))
 

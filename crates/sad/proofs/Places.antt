@@ -9,9 +9,10 @@ use lib.IntN.{ℤ, pos, natAbs, _+ℤ_, _*ℤ_}
 use lib.Signed.{mag, quotZ, nonNeg, pos-natAbs, natAbs-le}
 use mir.Syntax.{w16}
 use mir.Val.{SFits}
-use Rattle.motion.proofs.Bias.{mag-add}
-use Rattle.motion.proofs.Words.{quot-fits}
-use Rattle.sad.specs.Plane.{largestPlace, moved, sampleAt}
+use Rattle.ground.proofs.Bias.{mag-add}
+use Rattle.ground.proofs.Words.{quot-fits}
+use Rattle.sad.specs.Plane.{moved, sampleAt}
+use Rattle.sad.specs.Asked.{largestPlace}
 
 -- with no negative coordinate, all is in natural numbers
 pub sample-is : (stride pad : ℕ) (x y : ℤ) → nonNeg (x +ℤ pos pad) ≡ true → nonNeg (y +ℤ pos pad) ≡ true → sampleAt stride pad x y ≡ natAbs (y +ℤ pos pad) * stride + natAbs (x +ℤ pos pad)

@@ -4,7 +4,8 @@ use mathlib.Core.List.{List}
 use Prim.Native.Nat.{ℕ, zero, suc, _+_, _*_, _<_}
 use native.Mathlib.Nat.{add-zero, add-suc, add-assoc, add-mul, mul-add, mul-one, mul-suc, mul-le-mul-left}
 use native.Mathlib.Omega.{arith}
-use Rattle.sad.specs.Sad.{sumTo, sadRow, sadBlock, Inside}
+use Rattle.sad.specs.Sad.{sumTo, sadRow, sadBlock}
+use Rattle.sad.specs.Asked.{Inside}
 use Rattle.sad.proofs.Sums.{block-none, block-more}
 
 -- the g rows that turn k of a loop takes, g rows a turn

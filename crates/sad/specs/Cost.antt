@@ -19,9 +19,9 @@ unfoldable pub rdOf : ℕ → ℕ → MotionVector → MVCandidateRD
 rdOf weight sad v = record { cost = 256 * sad + rateV v * weight; sad = sad }
 
 -- the SAD of a block and of the reference block of a vector
-unfoldable pub sadAt : Block → List ℕ → List ℕ → MotionVector → ℕ
+unfoldable pub sadAt : (b : Block) (cur ref : List ℕ) (v : MotionVector) → ℕ
 sadAt b cur ref v = sadBlock cur (orgStart b) ref (refStart b v) (b .stride) (b .w) (b .h)
 
 -- what a vector costs a block
-unfoldable pub rdAt : Block → List ℕ → List ℕ → ℕ → MotionVector → MVCandidateRD
+unfoldable pub rdAt : (b : Block) (cur ref : List ℕ) (weight : ℕ) (v : MotionVector) → MVCandidateRD
 rdAt b cur ref weight v = cond (inRange (b .range) v) (rdOf weight (sadAt b cur ref v) v) emptyRd

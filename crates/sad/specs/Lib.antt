@@ -2,3 +2,5 @@
 pub mod Sad
 pub mod Plane
 pub mod Cost
+-- what inner functions ask, and no reader need believe
+pub mod Asked

@@ -1,5 +1,5 @@
 -- The sum of absolute differences of two blocks, over lists of sample values.
-use Prim.Native.Nat.{ℕ, zero, suc, _+_, _-_, _*_, _≤_, _<_}
+use Prim.Native.Nat.{ℕ, zero, suc, _+_, _-_, _*_}
 use mathlib.Core.List.{List}
 use lib.ListN.{getD}
 
@@ -13,17 +13,9 @@ unfoldable pub absDiff : ℕ → ℕ → ℕ
 absDiff a b = (a - b) + (b - a)
 
 -- the sum over the w columns of a row that starts at `src` in the one list and at `dst` in the other
-unfoldable pub sadRow : List ℕ → ℕ → List ℕ → ℕ → ℕ → ℕ
+unfoldable pub sadRow : (cur : List ℕ) (src : ℕ) (ref : List ℕ) (dst w : ℕ) → ℕ
 sadRow cur src ref dst w = sumTo w (λ x. absDiff (getD cur (src + x) 0) (getD ref (dst + x) 0))
 
 -- the sum over the h rows of a block, each `stride` samples after the one before
-unfoldable pub sadBlock : List ℕ → ℕ → List ℕ → ℕ → ℕ → ℕ → ℕ → ℕ
+unfoldable pub sadBlock : (cur : List ℕ) (src : ℕ) (ref : List ℕ) (dst stride w h : ℕ) → ℕ
 sadBlock cur src ref dst stride w h = sumTo h (λ y. sadRow cur (src + y * stride) ref (dst + y * stride) w)
-
--- each row of a block of w by h that starts at `start` lies inside n samples
-abbrev pub Inside : ℕ → ℕ → ℕ → ℕ → ℕ → Type 0
-Inside n start stride w h = (y : ℕ) → y < h → start + y * stride + w ≤ n
-
--- no block is wider or higher than this
-abbrev pub largestBlock : ℕ
-largestBlock = 64

@@ -6,7 +6,7 @@ use motion::rate::get_mv_rate;
 use motion::vector::MotionVector;
 ghost use mathlib.Core.Path.{_≡_};
 ghost use lib.ListN.{length};
-ghost use Rattle.sad.specs.Plane.{Lies};
+ghost use Rattle.sad.specs.Asked.{Lies};
 ghost use Rattle.sad.specs.Cost.{emptyRd, rdOf, rdAt};
 
 // The cost of a candidate, with its sum of absolute differences.

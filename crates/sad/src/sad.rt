@@ -1,7 +1,8 @@
 ghost use mathlib.Core.Path.{_≡_};
 ghost use Prim.Native.Nat.{_+_, _*_, _≤_, _<_};
 ghost use lib.ListN.{length};
-ghost use Rattle.sad.specs.Sad.{absDiff, sadRow, sadBlock, Inside, largestBlock};
+ghost use Rattle.sad.specs.Sad.{absDiff, sadRow, sadBlock};
+ghost use Rattle.sad.specs.Asked.{Inside, largestBlock};
 
 // A difference of signed numbers, which the compiler knows for the processor's own sum of absolute differences.
 fn abs_diff(p1: u8, p2: u8) -> u32

@@ -8,12 +8,12 @@ use native.Mathlib.Omega.{arith}
 use borrow.Author.Tests.{ltb-true}
 use lib.Dec.{ltb, eqb}
 use lib.ListN.{length, getD}
+use Rattle.ground.proofs.TestLaws.{both}
 use Rattle.motion.specs.declared.level.Level.{Level}
 use Rattle.motion.specs.Limits.{cellSide}
 use Rattle.motion.specs.Level.{levelOf}
 use Rattle.motion.specs.Frame.{Side, Starts, Sized, Placed, own4, own3, own2, refined3, refined2}
 use Rattle.motion.specs.Block.{croppedTo}
-use Rattle.motion.proofs.TestLaws.{both}
 use Rattle.motion.proofs.AxisLaws.{fitting}
 use Rattle.grid.specs.Grid.{cells, cellAt}
 use Rattle.grid.proofs.CellLaws.{cell-inside}

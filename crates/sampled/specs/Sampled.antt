@@ -19,7 +19,7 @@ taken false i = []
 
 -- left (bx−1, by+hc/2), top (bx+wc/2, by−1), right (bx+wc, by+hc/2), bottom (bx+wc/2, by+hc), those inside the grid; right and
 -- bottom only where they are asked for
-unfoldable pub neighbours : ℕ → ℕ → ℕ → ℕ → ℕ → Bool → Bool → List ℕ
+unfoldable pub neighbours : (width height size bx by : ℕ) (right bottom : Bool) → List ℕ
 neighbours width height size bx by right bottom =
     let wc = cellsAlong width size bx in
     let hc = cellsAlong height size by in
@@ -28,7 +28,7 @@ neighbours width height size bx by right bottom =
     ++ taken (bottom && ltb (by + hc) (height / cellSide)) (cellAt width (bx + wc / 2) (by + hc))
 
 -- centre (bx+wc/2, by+hc/2)
-unfoldable pub centreCell : ℕ → ℕ → ℕ → ℕ → ℕ → ℕ
+unfoldable pub centreCell : (width height size bx by : ℕ) → ℕ
 centreCell width height size bx by =
     cellAt width (bx + cellsAlong width size bx / 2) (by + cellsAlong height size by / 2)
 
@@ -37,17 +37,17 @@ unfoldable pub oddBlock : ℕ → ℕ → Bool
 oddBlock level b = not (eqb level 4) && eqb ((cellSide * b) % superblockSide / levelOf level .«mv_size» % 2) 1
 
 -- the cells of B
-unfoldable pub cellsB : ℕ → ℕ → ℕ → ℕ → ℕ → List ℕ
+unfoldable pub cellsB : (width height level bx by : ℕ) → List ℕ
 cellsB width height level bx by =
     neighbours width height (levelOf level .«mv_size») bx by (oddBlock level bx) (oddBlock level by)
 
 -- the cells of C, if a previous grid is present: left, top, right, bottom, then centre, no odd rule
-unfoldable pub cellsC : ℕ → ℕ → ℕ → ℕ → ℕ → Bool → List ℕ
+unfoldable pub cellsC : (width height level bx by : ℕ) (present : Bool) → List ℕ
 cellsC width height level bx by present =
     let size = levelOf level .«mv_size» in
     cond present (neighbours width height size bx by true true ++ (centreCell width height size bx by ∷ [])) []
 
 -- the current grid's centre, at levels 3 and 2
-unfoldable pub cellsCentre : ℕ → ℕ → ℕ → ℕ → ℕ → List ℕ
+unfoldable pub cellsCentre : (width height level bx by : ℕ) → List ℕ
 cellsCentre width height level bx by =
     taken (not (eqb level 4)) (centreCell width height (levelOf level .«mv_size») bx by)

@@ -7,10 +7,11 @@ use Prim.Native.Nat.{ℕ, zero, suc, _≤_, _<_, _^_}
 use native.Mathlib.Omega.{arith}
 use Rattle.motion.specs.declared.block.Block.{Block}
 use Rattle.motion.specs.declared.vector.MotionVector.{MotionVector}
+use Rattle.motion.specs.Limits.{largestSample}
 use Rattle.motion.specs.Vector.{FitsV, zeroV}
 use Rattle.motion.specs.Range.{inRange}
 use Rattle.motion.proofs.BlockLaws.{Straddles, zero-in}
-use Rattle.sad.specs.Plane.{Measured}
+use Rattle.sad.specs.Asked.{Measured}
 use Rattle.sad.specs.Cost.{emptyRd, rdAt}
 use Rattle.sad.proofs.Sums.{Under}
 use Rattle.sad.proofs.CostLaws.{in-range-most}
@@ -87,7 +88,7 @@ module _ (b : Block) (cur ref : List ℕ) (weight : ℕ) where
     pub own : Own (rdAt b cur ref weight) best
     pub less : best .rd .cost < mostCost
 
-  module _ (m : Measured b) (hc : Under 255 cur) (hr : Under 255 ref) (hw : weight < 2 ^ 32) where
+  module _ (m : Measured b) (hc : Under largestSample cur) (hr : Under largestSample ref) (hw : weight < 2 ^ 32) where
     -- in range, a block of bytes costs less than the most
     pub in-range-cost : (v : MotionVector) → inRange (b .range) v ≡ true → rdAt b cur ref weight v .cost < mostCost
     in-range-cost v h = omega (arith, in-range-most b cur ref weight v m hc hr hw h)

@@ -12,7 +12,7 @@ unfoldable pub diamondBest : CostOf → ℕ → MotionVector → MotionSearchRes
 diamondBest rd r centre = tryPattern rd emptyResult (Diamond r) centre
 
 -- turns of the diamond; the first argument bounds them
-unfoldable pub diamondFrom : ℕ → CostOf → ℕ → MotionSearchResult → MotionSearchResult
+unfoldable pub diamondFrom : (turns : ℕ) (rd : CostOf) (r : ℕ) (best : MotionSearchResult) → MotionSearchResult
 diamondFrom zero rd r best = best
 diamondFrom (suc n) rd zero best =
     let cand = diamondBest rd zero (best .mv) in

@@ -10,11 +10,11 @@ use Rattle.search.specs.declared.result.MotionSearchResult.{MotionSearch
 use Rattle.search.specs.Result.{CostOf, emptyResult, tryEach}
 
 -- one row of a window
-unfoldable pub rowOf : CostOf → MotionSearchResult → ℤ → Span → MotionSearchResult
+unfoldable pub rowOf : (rd : CostOf) (best : MotionSearchResult) (row : ℤ) (cols : Span) → MotionSearchResult
 rowOf rd best row cols = tryEach rd best (cols .count) (λ k. record { row = row; col = spanAt (cols .lo) k })
 
 -- the first n rows of a window, from an empty best
-unfoldable pub windowTo : CostOf → Span → Span → ℕ → MotionSearchResult
+unfoldable pub windowTo : (rd : CostOf) (rows cols : Span) (n : ℕ) → MotionSearchResult
 windowTo rd rows cols zero = emptyResult
 windowTo rd rows cols (suc n) = rowOf rd (windowTo rd rows cols n) (spanAt (rows .lo) n) cols
 
@@ -23,5 +23,5 @@ unfoldable pub fullSearch : CostOf → Window → MotionSearchResult
 fullSearch rd window = windowTo rd (window .rows) (window .cols) (window .rows .count)
 
 -- refinement
-unfoldable pub refine : CostOf → MvRange → MotionVector → ℕ → MotionSearchResult
+unfoldable pub refine : (rd : CostOf) (range : MvRange) (stored : MotionVector) (s : ℕ) → MotionSearchResult
 refine rd range stored s = fullSearch rd (refineWindow range stored s)

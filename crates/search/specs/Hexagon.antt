@@ -10,7 +10,7 @@ use Rattle.search.specs.declared.hexagon.HexCand.{HexCand}
 use Rattle.search.specs.Result.{CostOf, emptyResult, cheaper, tryPattern}
 
 -- point i of the hexagon against the cheapest so far of a round
-unfoldable pub tryIndex : CostOf → MotionVector → HexCand → ℕ → HexCand
+unfoldable pub tryIndex : (rd : CostOf) (centre : MotionVector) (cand : HexCand) (i : ℕ) → HexCand
 tryIndex rd centre cand i =
     let v = hexagonPoint centre i in
     cond (ltb (rd v .cost) (cand .best .rd .cost)) (record { idx = i; best = record { mv = v; rd = rd v } }) cand
@@ -32,7 +32,7 @@ hexagonThree rd centre i =
     ((i + 1) % 6)
 
 -- moves while the candidate is cheaper; the first argument bounds them
-unfoldable pub hexagonFrom : ℕ → CostOf → MotionSearchResult → HexCand → MotionSearchResult
+unfoldable pub hexagonFrom : (turns : ℕ) (rd : CostOf) (best : MotionSearchResult) (cand : HexCand) → MotionSearchResult
 hexagonFrom zero rd best cand = best
 hexagonFrom (suc n) rd best cand =
     cond (ltb (cand .best .rd .cost) (best .rd .cost))

@@ -27,10 +27,10 @@ unfoldable pub tryOne : CostOf → MotionSearchResult → MotionVector → Motio
 tryOne rd best v = cheaper best (record { mv = v; rd = rd v })
 
 -- the first n of a row of candidates, in turn
-unfoldable pub tryEach : CostOf → MotionSearchResult → ℕ → (ℕ → MotionVector) → MotionSearchResult
+unfoldable pub tryEach : (rd : CostOf) (best : MotionSearchResult) (n : ℕ) (vs : ℕ → MotionVector) → MotionSearchResult
 tryEach rd best zero vs = best
 tryEach rd best (suc n) vs = tryOne rd (tryEach rd best n vs) (vs n)
 
 -- all points of a pattern round a centre, which stays where it is
-unfoldable pub tryPattern : CostOf → MotionSearchResult → Pattern → MotionVector → MotionSearchResult
+unfoldable pub tryPattern : (rd : CostOf) (best : MotionSearchResult) (p : Pattern) (centre : MotionVector) → MotionSearchResult
 tryPattern rd best p centre = tryEach rd best (points p) (pointOf p centre)

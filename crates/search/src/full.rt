@@ -7,9 +7,9 @@ use points::window::span_at;
 ghost use mathlib.Core.Path.{_≡_};
 ghost use Prim.Native.Nat.{ℕ, _<_};
 ghost use lib.ListN.{length};
-ghost use Rattle.sad.specs.Plane.{Lies};
+ghost use Rattle.sad.specs.Asked.{Lies};
 ghost use Rattle.sad.specs.Cost.{rdAt};
-ghost use Rattle.points.specs.Window.{Spanned};
+ghost use Rattle.points.specs.Asked.{Spanned};
 ghost use Rattle.search.specs.Full.{rowOf, fullSearch};
 
 // One row of a window.

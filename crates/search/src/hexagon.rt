@@ -10,8 +10,8 @@ ghost use mathlib.Core.Bool.{true};
 ghost use lib.ListN.{length};
 ghost use Prim.Native.Nat.{_<_};
 ghost use Rattle.motion.specs.Range.{inRange};
-ghost use Rattle.motion.specs.Vector.{Near};
-ghost use Rattle.sad.specs.Plane.{Lies};
+ghost use Rattle.motion.specs.Asked.{Near};
+ghost use Rattle.sad.specs.Asked.{Lies};
 ghost use Rattle.sad.specs.Cost.{rdAt};
 ghost use Rattle.search.specs.Hexagon.{tryIndex, hexagonSix, hexagonThree, squareRound, hexagon};
 

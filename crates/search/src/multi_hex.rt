@@ -7,8 +7,8 @@ ghost use mathlib.Core.Path.{_≡_};
 ghost use mathlib.Core.Bool.{true};
 ghost use lib.ListN.{length};
 ghost use Rattle.motion.specs.Range.{inRange};
-ghost use Rattle.motion.specs.Vector.{Near};
-ghost use Rattle.sad.specs.Plane.{Lies};
+ghost use Rattle.motion.specs.Asked.{Near};
+ghost use Rattle.sad.specs.Asked.{Lies};
 ghost use Rattle.sad.specs.Cost.{rdAt};
 ghost use Rattle.search.specs.MultiHexagon.{cross, eighthsSquare, rings, multiHexagon};
 

@@ -10,10 +10,10 @@ use sad::rd::compute_mv_rd;
 use sad::sad::get_sad;
 ghost use mathlib.Core.Path.{_≡_};
 ghost use lib.ListN.{length};
-ghost use Rattle.motion.specs.Vector.{Near};
-ghost use Rattle.sad.specs.Plane.{Lies};
+ghost use Rattle.motion.specs.Asked.{Near};
+ghost use Rattle.sad.specs.Asked.{Lies};
 ghost use Rattle.sad.specs.Cost.{rdAt};
-ghost use Rattle.points.specs.Patterns.{Plain};
+ghost use Rattle.points.specs.Asked.{Plain};
 ghost use Rattle.search.specs.Result.{emptyResult, cheaper, tryOne, tryPattern};
 
 // The best vector so far, with its cost and sum of absolute differences.

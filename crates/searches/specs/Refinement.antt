@@ -7,7 +7,7 @@ use Rattle.motion.specs.declared.vector.MotionVector.{MotionVector}
 use Rattle.motion.specs.declared.block.Block.{Block}
 use Rattle.motion.specs.Level.{levelOf}
 use Rattle.grid.specs.Grid.{cellAt, storedAt}
-use Rattle.refusal.specs.Tests.{refuse, _then_, callRefusal, gridOk}
+use Rattle.refusal.specs.Refusals.{refuse, _then_, callRefusal, gridOk}
 use Rattle.sad.specs.Cost.{rdAt}
 use Rattle.points.specs.Window.{refineWindow, windowOk}
 use Rattle.search.specs.Full.{refine}
@@ -16,13 +16,13 @@ use Rattle.single.specs.Found.{foundOf, answer}
 use Rattle.single.specs.Call.{blockAt}
 
 -- 8: an empty window; else vector, SAD and cost at shift s
-unfoldable pub windowAnswer : Block → List ℕ → List ℕ → ℕ → MotionVector → ℕ → Found
+unfoldable pub windowAnswer : (b : Block) (cur ref : List ℕ) (weight : ℕ) (stored : MotionVector) (s : ℕ) → Found
 windowAnswer b cur ref weight stored s =
     let best = refine (rdAt b cur ref weight) (b .range) stored s in
     answer (refuse 8 (windowOk (refineWindow (b .range) stored s))) (foundOf (best .mv) (best .rd))
 
--- numbers 1 to 4, then 5: a grid too short, then 8
-unfoldable pub refineAnswer : ℕ → ℕ → ℕ → ℕ → ℕ → List ℕ → List ℕ → List ℤ → List ℤ → List ℕ → ℕ → Found
+-- refusals 1 to 4, then 5: a grid too short, then 8
+unfoldable pub refineAnswer : (width height level bx by : ℕ) (cur ref : List ℕ) (rows cols : List ℤ) (sads : List ℕ) (weight : ℕ) → Found
 refineAnswer width height level bx by cur ref rows cols sads weight =
     let b = blockAt width height level 1 bx by in
     let stored = storedAt rows cols (cellAt width bx by) in

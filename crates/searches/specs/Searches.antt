@@ -4,7 +4,7 @@ use mathlib.Core.List.{List}
 use lib.ListN.{length}
 use Rattle.motion.specs.declared.vector.MotionVector.{MotionVector}
 use Rattle.motion.specs.Range.{inRange}
-use Rattle.refusal.specs.Tests.{refuse, _then_, callRefusal}
+use Rattle.refusal.specs.Refusals.{refuse, _then_, callRefusal}
 use Rattle.sad.specs.Cost.{rdAt}
 use Rattle.search.specs.declared.result.MotionSearchResult.{MotionSearchResult}
 use Rattle.search.specs.Result.{CostOf}
@@ -22,13 +22,13 @@ searchBy Diamond rd start = diamond rd start
 searchBy Hexagon rd start = hexagon rd start
 searchBy MultiHexagon rd start = multiHexagon rd start
 
--- numbers 1 to 4, then 9: a start vector outside the block's range
-unfoldable pub searchRefusal : ℕ → ℕ → ℕ → ℕ → ℕ → ℕ → ℕ → MotionVector → ℕ
+-- refusals 1 to 4, then 9: a start vector outside the block's range
+unfoldable pub searchRefusal : (width height level bx by n m : ℕ) (v : MotionVector) → ℕ
 searchRefusal width height level bx by n m v =
     callRefusal width height level 0 bx by n m then refuse 9 (inRange (blockAt width height level 0 bx by .range) v)
 
 -- vector, SAD and cost at shift s, or the refusal
-unfoldable pub searchAnswer : Method → ℕ → ℕ → ℕ → ℕ → ℕ → List ℕ → List ℕ → MotionVector → ℕ → Found
+unfoldable pub searchAnswer : (method : Method) (width height level bx by : ℕ) (cur ref : List ℕ) (v : MotionVector) (weight : ℕ) → Found
 searchAnswer method width height level bx by cur ref v weight =
     let rd = rdAt (blockAt width height level 0 bx by) cur ref weight in
     let best = searchBy method rd (record { mv = v; rd = rd v }) in

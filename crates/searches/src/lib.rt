@@ -1,3 +1,4 @@
-// The entry points that search for a single block: none asks anything of its caller; each refuses by document 01's numbers instead.
+// The entry points that search for a single block: none asks anything of its caller; each gives document 01's refusals instead.
+pub mod calls;
 pub mod refinement;
 pub mod searches;

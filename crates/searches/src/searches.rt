@@ -1,6 +1,6 @@
 use motion::block::Block;
 use motion::vector::MotionVector;
-use refusal::tests::call_refusal;
+use refusal::refusals::call_refusal;
 use sad::rd::get_fullpel_mv_rd;
 use search::diamond::fullpel_diamond_search;
 use search::hexagon::hexagon_search;
@@ -12,7 +12,7 @@ ghost use mathlib.Core.Path.{_≡_};
 ghost use mathlib.Core.Bool.{true};
 ghost use lib.ListN.{length};
 ghost use Rattle.motion.specs.Range.{inRange};
-ghost use Rattle.sad.specs.Plane.{Lies};
+ghost use Rattle.sad.specs.Asked.{Lies};
 ghost use Rattle.sad.specs.Cost.{rdAt};
 ghost use Rattle.searches.specs.Searches.{searchBy, searchAnswer};
 
@@ -43,7 +43,7 @@ fn search_by(
 }
 
 // The tests of a single search, and the search.
-fn single_search(
+pub(crate) fn single_search(
     method: Method,
     width: usize,
     height: usize,
@@ -75,94 +75,4 @@ fn single_search(
         MotionSearchResult { mv, rd },
     );
     Found::done(best.mv, best.rd)
-}
-
-#[no_mangle]
-pub extern "C" fn lockdapple_diamond(
-    width: usize,
-    height: usize,
-    level: usize,
-    bx: usize,
-    by: usize,
-    cur: &[u8],
-    reference: &[u8],
-    row: i16,
-    col: i16,
-    weight: u32,
-) -> Found
-    ensures { λ r. ⌜ r ≡ searchAnswer Method.Diamond width height level bx by (now (cur .entry)) (now (reference .entry)) (record { row = row; col = col }) weight ⌝ }
-{
-    let mv = MotionVector { row, col };
-    single_search(
-        Method::Diamond,
-        width,
-        height,
-        level,
-        bx,
-        by,
-        cur,
-        reference,
-        mv,
-        weight,
-    )
-}
-
-#[no_mangle]
-pub extern "C" fn lockdapple_hexagon(
-    width: usize,
-    height: usize,
-    level: usize,
-    bx: usize,
-    by: usize,
-    cur: &[u8],
-    reference: &[u8],
-    row: i16,
-    col: i16,
-    weight: u32,
-) -> Found
-    ensures { λ r. ⌜ r ≡ searchAnswer Method.Hexagon width height level bx by (now (cur .entry)) (now (reference .entry)) (record { row = row; col = col }) weight ⌝ }
-{
-    let mv = MotionVector { row, col };
-    single_search(
-        Method::Hexagon,
-        width,
-        height,
-        level,
-        bx,
-        by,
-        cur,
-        reference,
-        mv,
-        weight,
-    )
-}
-
-#[no_mangle]
-pub extern "C" fn lockdapple_multi_hexagon(
-    width: usize,
-    height: usize,
-    level: usize,
-    bx: usize,
-    by: usize,
-    cur: &[u8],
-    reference: &[u8],
-    row: i16,
-    col: i16,
-    weight: u32,
-) -> Found
-    ensures { λ r. ⌜ r ≡ searchAnswer Method.MultiHexagon width height level bx by (now (cur .entry)) (now (reference .entry)) (record { row = row; col = col }) weight ⌝ }
-{
-    let mv = MotionVector { row, col };
-    single_search(
-        Method::MultiHexagon,
-        width,
-        height,
-        level,
-        bx,
-        by,
-        cur,
-        reference,
-        mv,
-        weight,
-    )
 }

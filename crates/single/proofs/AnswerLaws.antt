@@ -4,7 +4,7 @@ use mathlib.Core.Bool.{Bool, true, false}
 use Prim.Native.Nat.{ℕ, zero, suc}
 use native.Mathlib.Omega.{arith}
 use borrow.Author.Tests.{eq-eqb, ne-eqb}
-use Rattle.refusal.specs.Tests.{refuse, _then_}
+use Rattle.refusal.specs.Refusals.{refuse, _then_}
 use Rattle.predict.specs.declared.predictors.MotionEstimationSubsets.{MotionEstimationSubsets}
 use Rattle.single.specs.declared.found.Found.{Found}
 use Rattle.single.specs.Found.{refused, answer}

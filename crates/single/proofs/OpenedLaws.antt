@@ -1,11 +1,11 @@
--- A call that numbers 1 to 4 leave has its block inside both planes. Assumes nothing.
+-- A call that refusals 1 to 4 leave has its block inside both planes. Assumes nothing.
 use mathlib.Core.Path.{_≡_}
 use Prim.Native.Nat.{ℕ}
 use Rattle.motion.specs.Level.{levelOf}
 use Rattle.motion.specs.Frame.{Placed}
-use Rattle.refusal.specs.Tests.{sizeOf, blockRefusal, planesRefusal, callRefusal}
+use Rattle.refusal.specs.Refusals.{sizeOf, blockRefusal, planesRefusal, callRefusal}
 use Rattle.refusal.proofs.RefusalLaws.{none-of, accepted, lent}
-use Rattle.sad.specs.Plane.{Lies}
+use Rattle.sad.specs.Asked.{Lies}
 use Rattle.sad.proofs.Contained.{lies}
 use Rattle.single.specs.Call.{blockAt}
 

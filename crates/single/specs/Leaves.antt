@@ -7,14 +7,14 @@ use lib.IntN.{pos}
 use lib.ListN.{length}
 use Rattle.motion.specs.declared.vector.MotionVector.{MotionVector}
 use Rattle.motion.specs.declared.range.MvRange.{MvRange}
-use Rattle.refusal.specs.Tests.{blockRefusal, callRefusal}
+use Rattle.refusal.specs.Refusals.{blockRefusal, callRefusal}
 use Rattle.sad.specs.Cost.{rdAt}
 use Rattle.single.specs.declared.found.Found.{Found}
-use Rattle.single.specs.declared.leaves.Range.{Range}
+use Rattle.single.specs.declared.range.Range.{Range}
 use Rattle.single.specs.Found.{foundOf, answer}
 use Rattle.single.specs.Call.{blockAt}
 
--- a range with its number; 0 in each field where refused
+-- a range with the refusal; 0 in each field where there is one
 unfoldable pub rangeWith : ℕ → MvRange → Range
 rangeWith number r =
     cond (eqb number 0)
@@ -22,12 +22,12 @@ rangeWith number r =
     (record { code = number; «mvx_min» = pos 0; «mvx_max» = pos 0; «mvy_min» = pos 0; «mvy_max» = pos 0 })
 
 -- the range of a block, at its level's shift
-unfoldable pub rangeAnswer : ℕ → ℕ → ℕ → ℕ → ℕ → ℕ → Range
+unfoldable pub rangeAnswer : (width height level refined bx by : ℕ) → Range
 rangeAnswer width height level refined bx by =
     rangeWith (blockRefusal width height level refined bx by) (blockAt width height level refined bx by .range)
 
 -- the cost of one vector for a block
-unfoldable pub candidateAnswer : ℕ → ℕ → ℕ → ℕ → ℕ → ℕ → List ℕ → List ℕ → MotionVector → ℕ → Found
+unfoldable pub candidateAnswer : (width height level refined bx by : ℕ) (cur ref : List ℕ) (v : MotionVector) (weight : ℕ) → Found
 candidateAnswer width height level refined bx by cur ref v weight =
     answer (callRefusal width height level refined bx by (length cur) (length ref))
     (foundOf v (rdAt (blockAt width height level refined bx by) cur ref weight v))

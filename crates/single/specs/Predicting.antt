@@ -6,14 +6,14 @@ use lib.Dec.{eqb}
 use Rattle.motion.specs.Vector.{zeroV}
 use Rattle.grid.specs.Grid.{Grid}
 use Rattle.grid.specs.Previous.{previous}
-use Rattle.refusal.specs.Tests.{refuse, _then_, blockRefusal, gridsHold}
+use Rattle.refusal.specs.Refusals.{refuse, _then_, blockRefusal, gridsHold}
 use Rattle.sampled.specs.Slots.{slotted}
 use Rattle.predict.specs.declared.predictors.MotionEstimationSubsets.{MotionEstimationSubsets}
 use Rattle.predict.specs.Predictors.{subsetsOf}
 use Rattle.single.specs.declared.predicting.Predictors.{Predictors}
 
--- numbers 1 to 3, then 5
-unfoldable pub predictorsRefusal : ℕ → ℕ → ℕ → ℕ → ℕ → ℕ → Grid → Grid → ℕ
+-- refusals 1 to 3, then 5
+unfoldable pub predictorsRefusal : (width height level bx by present : ℕ) (prev g : Grid) → ℕ
 predictorsRefusal width height level bx by present prev g =
     blockRefusal width height level 0 bx by then refuse 5 (gridsHold width height present prev g)
 
@@ -47,7 +47,7 @@ predictorsWith number p =
     })
     (refusedPredictors number)
 
-unfoldable pub predictorsAnswer : ℕ → ℕ → ℕ → ℕ → ℕ → ℕ → Grid → Grid → Predictors
+unfoldable pub predictorsAnswer : (width height level bx by present : ℕ) (prev g : Grid) → Predictors
 predictorsAnswer width height level bx by present prev g =
     predictorsWith (predictorsRefusal width height level bx by present prev g)
     (subsetsOf width height level bx by (previous present prev .present) prev g)

@@ -1,12 +1,12 @@
 use motion::block::Block;
 use motion::block::block_of;
 use motion::level::level_of;
-use refusal::tests::size_of;
+use refusal::refusals::size_of;
 ghost use mathlib.Core.Path.{_≡_};
-ghost use Rattle.refusal.specs.Tests.{blockRefusal};
+ghost use Rattle.refusal.specs.Refusals.{blockRefusal};
 ghost use Rattle.single.specs.Call.{blockAt};
 
-// The block of a call that numbers 1 to 3 do not refuse.
+// The block of a call that refusals 1 to 3 do not refuse.
 pub fn block_at(
     width: usize,
     height: usize,

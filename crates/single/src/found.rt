@@ -3,7 +3,7 @@ use sad::rd::MVCandidateRD;
 ghost use mathlib.Core.Path.{_≡_};
 ghost use Rattle.single.specs.Found.{refused, foundOf};
 
-// What a single search, a refinement or a candidate gives: a number of document 01, and a vector with its SAD and cost.
+// What a single search, a refinement or a candidate gives: 0 or a refusal, and a vector with its SAD and cost.
 #[repr(C)]
 pub struct Found {
     pub code: u32,

@@ -1,4 +1,4 @@
--- What a step answers: after a refusal its number and the grid as it stood, else what is defined. Assumes nothing.
+-- What a step answers: the refusal and the grid as it stood, else what is defined. Assumes nothing.
 use mathlib.Core.Path.{_≡_, sym, _∙_}
 use mathlib.Core.Bool.{true, false}
 use mathlib.Core.List.{List}
@@ -7,18 +7,18 @@ use native.Mathlib.Omega.{arith}
 use borrow.Author.Tests.{eq-eqb, ne-eqb}
 use Rattle.grid.specs.Grid.{Grid}
 use Rattle.grid.specs.Previous.{previous}
-use Rattle.refusal.specs.Tests.{refuse, _then_}
+use Rattle.refusal.specs.Refusals.{refuse, _then_}
 use Rattle.refusal.proofs.RefusalLaws.{first-is}
 use Rattle.estimate.specs.Inputs.{inputsOf}
 use Rattle.superblock.specs.Step.{windowsOk, step}
 use Rattle.steps.specs.Steps.{stepTests, stepRefusal, stepGrid}
 
-module _ (width height level n : ℕ) (cur ref : List ℕ) (present : ℕ) (prev g : Grid) where
+module _ (width height level n : ℕ) (cur ref : List ℕ) (present : ℕ) (prev : Grid) (weight : ℕ) (g : Grid) where
   -- a code, and the grid left with it, as a step has them
   abbrev pub StepAnswer : ℕ → Grid → Type 0
   StepAnswer code left =
       (code ≡ stepRefusal width height level n cur ref present prev g)
-      × (left ≡ stepGrid width height level n cur ref present prev g)
+      × (left ≡ stepGrid width height level n cur ref present prev weight g)
 
   step-stays : {code : ℕ} → code ≡ stepRefusal width height level n cur ref present prev g → (code ≡ 0 → ⊥) → StepAnswer code g
   unfolding stepGrid
@@ -28,13 +28,13 @@ module _ (width height level n : ℕ) (cur ref : List ℕ) (present : ℕ) (prev
   unfolding stepRefusal
   step-refused e h = step-stays (first-is _ e h) h
 
-  pub step-empty : {left : Grid} → stepTests width height level n cur ref present prev g ≡ 0 → windowsOk width height level n (g .rows) (g .cols) ≡ false → left ≡ step (inputsOf width height level cur ref 0) (previous present prev) n g → StepAnswer 8 left
+  pub step-empty : {left : Grid} → stepTests width height level n cur ref present prev g ≡ 0 → windowsOk width height level n (g .rows) (g .cols) ≡ false → left ≡ step (inputsOf width height level cur ref weight) (previous present prev) n g → StepAnswer 8 left
   unfolding stepRefusal refuse _then_ step
   step-empty tests empty e =
       let stays = step-stays {code = 8} (rw (tests, empty)) (λ z. absurd (omega arith)) in
       (stays .0, e ∙ rw empty (stays .1))
 
-  pub step-done : {left : Grid} → stepTests width height level n cur ref present prev g ≡ 0 → windowsOk width height level n (g .rows) (g .cols) ≡ true → left ≡ step (inputsOf width height level cur ref 0) (previous present prev) n g → StepAnswer 0 left
+  pub step-done : {left : Grid} → stepTests width height level n cur ref present prev g ≡ 0 → windowsOk width height level n (g .rows) (g .cols) ≡ true → left ≡ step (inputsOf width height level cur ref weight) (previous present prev) n g → StepAnswer 0 left
   unfolding stepRefusal refuse _then_ stepGrid
   step-done tests some e =
       let none : stepRefusal width height level n cur ref present prev g ≡ 0 = rw (tests, some) in

@@ -7,16 +7,17 @@ use Prim.Native.Nat.{ℕ, _<_}
 use borrow.Author.Tests.{ltb-true, eqb-true}
 use lib.Dec.{ltb, eqb}
 use lib.ListN.{length}
+use Rattle.ground.proofs.TestLaws.{both, either}
 use Rattle.motion.specs.Superblock.{superblocks}
-use Rattle.motion.proofs.TestLaws.{both, either}
 use Rattle.grid.specs.Grid.{Grid}
-use Rattle.refusal.specs.Tests.{refuse, _then_, sideOk, levelOk, planesRefusal, gridsHold}
+use Rattle.refusal.specs.Refusals.{refuse, _then_, sideOk, levelOk, planesRefusal, gridsHold}
 use Rattle.refusal.proofs.RefusalLaws.{first-passed, passes, none-of, side-of, lent}
 use Rattle.refusal.proofs.GridsLaws.{GridsHeld, grids-held}
-use Rattle.estimate.specs.Inputs.{Leveled, Ready, inputsOf, four, three, two}
+use Rattle.estimate.specs.Inputs.{inputsOf}
+use Rattle.estimate.specs.Asked.{four, three, two, Leveled, Ready}
 use Rattle.steps.specs.Steps.{stepTests}
 
--- the levels of number 2, where nothing is refined
+-- the levels of refusal 2, where nothing is refined
 leveled-of : (level : ℕ) → levelOk level 0 ≡ true → Leveled level
 unfolding levelOk
 leveled-of level h =
@@ -29,9 +30,9 @@ leveled-of level h =
     at : (n : ℕ) → eqb level n ≡ true → Leveled n → Leveled level
     at n e l = subst Leveled (sym (eqb-true level n e)) l
 
--- what numbers 1 to 5 leave of a step
+-- what refusals 1 to 5 leave of a step
 pub record StepReady (width height level n : ℕ) (cur ref : List ℕ) (present : ℕ) (prev g : Grid) : Type 0 where
-  pub ready : Ready (inputsOf width height level cur ref 0)
+  pub ready : (weight : ℕ) → Ready (inputsOf width height level cur ref weight)
   pub inside : n < superblocks width height
   pub grids : GridsHeld width height present prev g
 
@@ -48,7 +49,7 @@ step-ready width height level n cur ref present prev g e =
     let sides = both (sideOk width) (sideOk height) (one .0) in
     let lent = lent width height level (length cur) (length ref) (four .0) in
     record {
-      ready = record {
+      ready = λ weight. record {
         wide = side-of width (sides .0);
         high = side-of height (sides .1);
         leveled = leveled-of level (two .0);

@@ -1,4 +1,4 @@
--- The superblock step: its number, and the grid that it leaves.
+-- The superblock step: its refusal, and the grid that it leaves.
 use Prim.Native.Nat.{ℕ}
 use mathlib.Core.Bool.{_&&_, cond}
 use mathlib.Core.List.{List}
@@ -7,12 +7,12 @@ use lib.ListN.{length}
 use Rattle.motion.specs.Superblock.{superblocks}
 use Rattle.grid.specs.Grid.{Grid}
 use Rattle.grid.specs.Previous.{previous}
-use Rattle.refusal.specs.Tests.{refuse, _then_, sideOk, levelOk, planesRefusal, gridsHold}
+use Rattle.refusal.specs.Refusals.{refuse, _then_, sideOk, levelOk, planesRefusal, gridsHold}
 use Rattle.estimate.specs.Inputs.{inputsOf}
 use Rattle.superblock.specs.Step.{windowsOk, step}
 
--- numbers 1 to 5 of a step that uses these two planes; 3: the superblock number is not in the frame
-unfoldable pub stepTests : ℕ → ℕ → ℕ → ℕ → List ℕ → List ℕ → ℕ → Grid → Grid → ℕ
+-- refusals 1 to 5 of a step that uses these two planes; 3: the superblock number is not in the frame
+unfoldable pub stepTests : (width height level n : ℕ) (cur ref : List ℕ) (present : ℕ) (prev g : Grid) → ℕ
 stepTests width height level n cur ref present prev g =
     refuse 1 (sideOk width && sideOk height)
     then refuse 2 (levelOk level 0)
@@ -21,13 +21,13 @@ stepTests width height level n cur ref present prev g =
     then refuse 5 (gridsHold width height present prev g)
 
 -- then 8: a refinement window of the step is empty
-unfoldable pub stepRefusal : ℕ → ℕ → ℕ → ℕ → List ℕ → List ℕ → ℕ → Grid → Grid → ℕ
+unfoldable pub stepRefusal : (width height level n : ℕ) (cur ref : List ℕ) (present : ℕ) (prev g : Grid) → ℕ
 stepRefusal width height level n cur ref present prev g =
     stepTests width height level n cur ref present prev g
     then refuse 8 (windowsOk width height level n (g .rows) (g .cols))
 
--- weight 0; after a refusal all cells stay
-unfoldable pub stepGrid : ℕ → ℕ → ℕ → ℕ → List ℕ → List ℕ → ℕ → Grid → Grid → Grid
-stepGrid width height level n cur ref present prev g =
+-- after a refusal all cells stay
+unfoldable pub stepGrid : (width height level n : ℕ) (cur ref : List ℕ) (present : ℕ) (prev : Grid) (weight : ℕ) (g : Grid) → Grid
+stepGrid width height level n cur ref present prev weight g =
     cond (eqb (stepRefusal width height level n cur ref present prev g) 0)
-    (step (inputsOf width height level cur ref 0) (previous present prev) n g) g
+    (step (inputsOf width height level cur ref weight) (previous present prev) n g) g

@@ -9,11 +9,11 @@ use native.Mathlib.Omega.{arith}
 use lib.Dec.{eqb}
 use lib.IntN.{ℤ}
 use lib.ListN.{length}
+use Rattle.ground.proofs.EveryLaws.{below-at}
 use Rattle.motion.specs.Frame.{Side}
 use Rattle.motion.specs.Level.{levelOf}
 use Rattle.motion.specs.Block.{blockOf}
 use Rattle.motion.specs.Superblock.{superblocks}
-use Rattle.motion.proofs.EveryLaws.{below-at}
 use Rattle.grid.specs.declared.cells.MEStats.{MEStats}
 use Rattle.grid.specs.Grid.{Grid, Held, cellAt, statsAt}
 use Rattle.grid.specs.Previous.{Previous}

@@ -14,7 +14,8 @@ ghost use Rattle.motion.specs.Limits.{largestSide, cellSide, superblockSide};
 ghost use Rattle.motion.specs.Superblock.{superblocks};
 ghost use Rattle.grid.specs.Grid.{Held, cells, gridOf};
 ghost use Rattle.grid.specs.Previous.{HeldIf, previousOf};
-ghost use Rattle.estimate.specs.Inputs.{Ready, Leveled, inputsOf};
+ghost use Rattle.estimate.specs.Inputs.{inputsOf};
+ghost use Rattle.estimate.specs.Asked.{Ready, Leveled};
 ghost use Rattle.superblock.specs.Step.{blocksAlong, blockCount, blockX, blockY, refinedCount, windowsOk, refinements, estimates, step};
 
 // How many blocks of a size lie along a side of the superblock whose first cell is b.

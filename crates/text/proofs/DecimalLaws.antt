@@ -14,7 +14,7 @@ use lib.Signed.{ltZ, natAbs-le}
 use lib.ListN.{length, length-append}
 use mir.Syntax.{w16}
 use mir.Val.{SFits}
-use Rattle.motion.proofs.TestLaws.{tested}
+use Rattle.ground.proofs.TestLaws.{tested}
 use Rattle.text.specs.Decimal.{digit, digitsIn, decimal, signed}
 
 none : (k : ℕ) → digitsIn k 0 ≡ []

@@ -5,7 +5,7 @@ use Prim.Native.Nat.{ℕ, _+_}
 use native.Mathlib.Omega.{arith}
 use lib.ListN.{length-append}
 use lib.Seq.{sets}
-use Rattle.motion.proofs.ListLaws.{sets-append}
+use Rattle.ground.proofs.ListLaws.{sets-append}
 use Rattle.text.specs.Put.{Put}
 
 -- a text put behind another is put with it

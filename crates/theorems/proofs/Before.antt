@@ -9,19 +9,20 @@ use native.Mathlib.Nat.{le-refl, zero-mod, zero-div, mod-lt, mod-eq-of-lt, mod-e
 use native.Mathlib.Omega.{arith}
 use borrow.Author.Tests.{ltb-true, lt-ltb}
 use lib.ListN.{length, getD}
+use Rattle.ground.specs.Every.{allBelow}
 use Rattle.motion.specs.Limits.{cellSide}
 use Rattle.motion.specs.Frame.{Side}
 use Rattle.motion.specs.Level.{levelOf}
 use Rattle.motion.specs.Block.{croppedTo}
 use Rattle.motion.specs.Superblock.{superblocksAlong, superblocks, superblockX, superblockY}
-use Rattle.motion.specs.Every.{allBelow}
 use Rattle.grid.specs.Grid.{Grid, Held, cells, cellAt, statsAt}
 use Rattle.grid.specs.Previous.{Previous}
 use Rattle.grid.specs.Save.{saveBlock}
 use Rattle.grid.proofs.CellLaws.{cell-inside}
 use Rattle.grid.proofs.SaveLaws.{true-up-to, covers-at}
 use Rattle.sampled.specs.Sampled.{cellsAlong, taken, neighbours, oddBlock, cellsB, cellsCentre}
-use Rattle.estimate.specs.Inputs.{three, two, inputsOf, Planes, planeAt}
+use Rattle.estimate.specs.Inputs.{inputsOf, Planes, planeAt}
+use Rattle.estimate.specs.Asked.{three, two}
 use Rattle.estimate.specs.Block.{estimateMotion}
 use Rattle.superblock.specs.Step.{blocksAlong, blockCount, blockX, blockY, worked, refinedCount, windowsOk, refinements, estimates, step}
 use Rattle.superblock.proofs.GeometryLaws.{column-begins, row-begins}
@@ -32,9 +33,8 @@ use Rattle.order.specs.List.{raster}
 use Rattle.order.proofs.EdgeLaws.{some-of}
 use Rattle.order.proofs.Accepted.{raster-accepted}
 use Rattle.theorems.specs.Cells.{ownCell, AgreeOn}
-use Rattle.theorems.specs.Order.{WhateverBefore}
 use Rattle.theorems.proofs.CellLaws.{own-of}
-use Rattle.theorems.proofs.OrderLaws.{order}
+use Rattle.theorems.proofs.OrderLaws.{AcceptedList, order}
 use Rattle.theorems.proofs.BlockReads.{SameAt, estimate-reads}
 use Rattle.theorems.proofs.Inside.{SameInside, saved-same, run-same}
 
@@ -209,7 +209,7 @@ whatever-raster width height wide high cur ref weight p g h one other c q =
     let b = run-same (at 3) p wide high three all below _ _ a in
     run-same (at 2) p wide high two all below _ _ b .same c q
 
-pub whatever-before : WhateverBefore
+pub whatever-before : (width height : ℕ) → Side width → Side height → (cur ref : Planes) (weight : ℕ) (p : Previous) (list : List ℕ) → AcceptedList width height list → (g h : Grid) → Held width height g → Held width height h → (c : ℕ) → c < cells width height → statsAt (frameRun width height cur ref weight p list g) c ≡ statsAt (frameRun width height cur ref weight p list h) c
 whatever-before width height wide high cur ref weight p list ok g h one other c q =
     ap (λ (a : Grid). statsAt a c) (order width height wide high cur ref weight p list ok g)
     ∙ whatever-raster width height wide high cur ref weight p g h one other c q

@@ -7,10 +7,10 @@ use native.Mathlib.Nat.{add-mul, mul-comm, mul-le-mul-right, mod-lt, mod-eq-of-l
 use native.Mathlib.Omega.{arith}
 use borrow.Author.Tests.{ltb-true, lt-ltb}
 use lib.Dec.{ltb}
+use Rattle.ground.proofs.TestLaws.{both}
 use Rattle.motion.specs.Limits.{cellSide, superblockSide}
 use Rattle.motion.specs.Frame.{Side}
 use Rattle.motion.specs.Superblock.{superblocksAlong, superblocks, superblockX, superblockY}
-use Rattle.motion.proofs.TestLaws.{both}
 use Rattle.grid.specs.Grid.{cells}
 use Rattle.grid.specs.Save.{upTo, covers}
 use Rattle.grid.proofs.SaveLaws.{up-to-true, true-up-to}

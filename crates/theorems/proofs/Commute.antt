@@ -5,9 +5,9 @@ use mathlib.Core.Logic.{inl, ⊎-elim}
 use Prim.Native.Nat.{ℕ, _<_}
 use lib.IntN.{pos}
 use lib.Seq.{ext-getD}
+use Rattle.ground.proofs.TestLaws.{tested, not-so}
 use Rattle.motion.specs.Frame.{Side}
 use Rattle.motion.specs.Superblock.{superblocksAlong, superblocks}
-use Rattle.motion.proofs.TestLaws.{tested, not-so}
 use Rattle.grid.specs.declared.cells.MEStats.{MEStats}
 use Rattle.grid.specs.Grid.{Grid, storedAt, statsAt}
 use Rattle.grid.specs.Previous.{Previous}

@@ -9,7 +9,7 @@ use native.Mathlib.Omega.{arith}
 use borrow.Author.Tests.{lt-leb, lt-ltb}
 use lib.Dec.{ltb}
 use Rattle.motion.specs.declared.vector.MotionVector.{MotionVector}
-use Rattle.motion.specs.Limits.{cellSide}
+use Rattle.motion.specs.Limits.{cellSide, largestSample}
 use Rattle.motion.specs.Vector.{shlV}
 use Rattle.motion.specs.Level.{levelOf}
 use Rattle.motion.specs.Frame.{Side, Starts}
@@ -25,7 +25,8 @@ use Rattle.grid.proofs.SaveLaws.{true-up-to, covers-at, read-outside, read-insi
 use Rattle.sad.proofs.Sums.{Under}
 use Rattle.predict.specs.Predictors.{subsetsOf}
 use Rattle.predict.proofs.SubsetLaws.{subsets-sound}
-use Rattle.estimate.specs.Inputs.{Inputs, Ready}
+use Rattle.estimate.specs.Inputs.{Inputs}
+use Rattle.estimate.specs.Asked.{Ready}
 use Rattle.estimate.specs.Block.{blockIn, costIn, fullPixelMe, statsOf, estimateMotion}
 use Rattle.estimate.proofs.BlockFacts.{own-sized, block-lies, block-zero, fullPixelMe-settled}
 use Rattle.superblock.specs.Step.{blocksAlong, blockCount, blockX, blockY, worked, estimates}
@@ -41,8 +42,8 @@ pub record Stored (width height level bx by : ℕ) (mv : MotionVector) : Type 0 
 -- inputs that no test refuses, over planes of bytes and with a weight of 32 bits
 pub record Bytes (i : Inputs) : Type 0 where
   pub ready : Ready i
-  pub cur : Under 255 (i .cur)
-  pub ref : Under 255 (i .ref)
+  pub cur : Under largestSample (i .cur)
+  pub ref : Under largestSample (i .ref)
   pub weight : i .weight < 2 ^ 32
 
 -- what a search saves

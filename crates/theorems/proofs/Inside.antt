@@ -7,11 +7,11 @@ use Prim.Native.Nat.{ℕ, zero, suc, _≤_, _<_}
 use native.Mathlib.Nat.{le-refl}
 use native.Mathlib.Omega.{arith}
 use lib.ListN.{length, getD}
+use Rattle.ground.proofs.TestLaws.{tested}
+use Rattle.ground.proofs.EveryLaws.{below-same}
 use Rattle.motion.specs.Frame.{Side, Placed}
 use Rattle.motion.specs.Level.{levelOf}
 use Rattle.motion.specs.Superblock.{superblocks}
-use Rattle.motion.proofs.TestLaws.{tested}
-use Rattle.motion.proofs.EveryLaws.{below-same}
 use Rattle.grid.specs.declared.cells.MEStats.{MEStats}
 use Rattle.grid.specs.Grid.{Grid, Held, cells, cellAt, statsAt}
 use Rattle.grid.specs.Previous.{Previous}
@@ -20,7 +20,8 @@ use Rattle.grid.proofs.CellLaws.{cell-inside}
 use Rattle.grid.proofs.SaveLaws.{held-block, block-inside, block-outside}
 use Rattle.points.specs.Window.{windowOk}
 use Rattle.sampled.proofs.InsideLaws.{b-inside, centre-inside}
-use Rattle.estimate.specs.Inputs.{Inputs, Leveled}
+use Rattle.estimate.specs.Inputs.{Inputs}
+use Rattle.estimate.specs.Asked.{Leveled}
 use Rattle.estimate.specs.Block.{estimateMotion, refineMotion}
 use Rattle.estimate.proofs.BlockFacts.{own-sized}
 use Rattle.superblock.specs.Step.{blockCount, blockX, blockY, worked, refinedCount, windowsOk, refinements, estimates, step}

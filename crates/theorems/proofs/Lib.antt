@@ -16,3 +16,4 @@ pub mod WindowsAfter
 pub mod WindowsRun
 pub mod NoEight
 pub mod PublicStep
+pub mod Demand3

@@ -8,12 +8,12 @@ use native.Mathlib.Nat.{eq-or-lt-of-le, div-add-mod', mul-add-mod-self-right, mo
 use native.Mathlib.Omega.{arith}
 use borrow.Author.Tests.{ltb-true}
 use lib.Dec.{ltb, eqb}
+use Rattle.ground.proofs.TestLaws.{both}
 use Rattle.motion.specs.Limits.{cellSide}
 use Rattle.motion.specs.Level.{levelOf}
 use Rattle.motion.specs.Frame.{Side, Starts, own4, own3, own2}
 use Rattle.motion.specs.Block.{croppedTo}
 use Rattle.motion.specs.Superblock.{superblocksAlong, superblocks, superblockX, superblockY}
-use Rattle.motion.proofs.TestLaws.{both}
 use Rattle.grid.specs.Grid.{cellAt}
 use Rattle.grid.proofs.CellLaws.{cell-inside}
 use Rattle.sampled.specs.Sampled.{cellsAlong, taken, neighbours, centreCell, cellsB, cellsCentre}

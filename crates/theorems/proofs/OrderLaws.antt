@@ -7,15 +7,14 @@ use Rattle.motion.specs.Frame.{Side}
 use Rattle.motion.specs.Superblock.{superblocksAlong, superblocks}
 use Rattle.grid.specs.Grid.{Grid}
 use Rattle.grid.specs.Previous.{Previous}
-use Rattle.estimate.specs.Inputs.{Inputs}
+use Rattle.estimate.specs.Inputs.{Inputs, Planes}
 use Rattle.superblock.specs.Step.{step}
 use Rattle.frame.specs.Run.{levelRun, inputsAt, frameRun}
-use Rattle.order.specs.List.{sharesEdge, raster}
+use Rattle.order.specs.List.{sharesEdge, raster, listRefusal}
 use Rattle.order.specs.Fold.{foldSteps}
 use Rattle.order.proofs.Accepted.{Accepted, accepted}
 use Rattle.order.proofs.FoldLaws.{accepted-folds}
 use Rattle.theorems.specs.Cells.{beside}
-use Rattle.theorems.specs.Order.{AcceptedList, Order}
 use Rattle.theorems.proofs.Commute.{steps-commute}
 
 -- steps on any two different superblocks below n that share no edge commute
@@ -27,6 +26,10 @@ pub level-commutes : (i : Inputs) (p : Previous) → Side (i .width) → Side (i
 unfolding beside
 level-commutes i p wide high a b ha hb other one back g =
     steps-commute i p wide high a b ha hb other (ap₂ (λ (s t : Bool). s || t) one back) g
+
+-- a list that the test of 6 and 7 accepts
+abbrev pub AcceptedList : ℕ → ℕ → List ℕ → Type 0
+AcceptedList width height list = listRefusal (superblocksAlong width) (superblocksAlong height) list ≡ 0
 
 -- a frame's list, in propositions
 pub accepted-list : (width height : ℕ) (list : List ℕ) → AcceptedList width height list → Accepted (superblocksAlong width) (superblocks width height) list
@@ -47,7 +50,7 @@ level-order i p wide high list taken g =
     ∙ sym (run-is-fold i p (raster (superblocks (i .width) (i .height))) g)
 
 -- levels 4, 3, 2
-pub order : Order
+pub order : (width height : ℕ) → Side width → Side height → (cur ref : Planes) (weight : ℕ) (p : Previous) (list : List ℕ) → AcceptedList width height list → (g : Grid) → frameRun width height cur ref weight p list g ≡ frameRun width height cur ref weight p (raster (superblocks width height)) g
 unfolding frameRun inputsAt
 order width height wide high cur ref weight p list taken g =
     let at : ℕ → Inputs = inputsAt width height cur ref weight in

@@ -13,10 +13,9 @@ use Rattle.grid.specs.Grid.{Grid, cells, statsAt}
 use Rattle.grid.specs.Previous.{Previous}
 use Rattle.grid.specs.Save.{upTo, covers}
 use Rattle.grid.proofs.SaveLaws.{block-outside}
-use Rattle.estimate.specs.Inputs.{Inputs}
+use Rattle.estimate.specs.Inputs.{Inputs, Planes}
 use Rattle.superblock.specs.Step.{blockX, blockY, worked, windowsOk, refinements, estimates, step}
 use Rattle.frame.specs.Run.{levelRun, inputsAt, frameRun}
-use Rattle.theorems.specs.Order.{PastStays}
 
 -- no block covers a cell past the frame
 module _ (width height c : ℕ) (wide : Side width) (past : cells width height ≤ c) where
@@ -39,7 +38,7 @@ module _ (width height c : ℕ) (wide : Side width) (past : cells width height �
       let by = blockY width size n k in
       block-outside width height size bx by (result bx by now) now c (covers-past size bx by) ∙ worked-past result size n k g
 
-kept-if : (t : Bool) (next g : Grid) (c : ℕ) → statsAt next c ≡ statsAt g c → statsAt (cond t next g) c ≡ statsAt g c
+pub kept-if : (t : Bool) (next g : Grid) (c : ℕ) → statsAt next c ≡ statsAt g c → statsAt (cond t next g) c ≡ statsAt g c
 kept-if true next g c e = e
 kept-if false next g c e = refl
 
@@ -56,7 +55,7 @@ module _ (i : Inputs) (p : Previous) (wide : Side (i .width)) (c : ℕ) (past : 
   run-past [] g = refl
   run-past (n ∷ ns) g = run-past ns (step i p n g) ∙ step-past n g
 
-pub past-stays : PastStays
+pub past-stays : (width height : ℕ) → Side width → (cur ref : Planes) (weight : ℕ) (p : Previous) (list : List ℕ) (g : Grid) (c : ℕ) → cells width height ≤ c → statsAt (frameRun width height cur ref weight p list g) c ≡ statsAt g c
 unfolding frameRun inputsAt
-past-stays width height wide high cur ref weight p list g c past =
+past-stays width height wide cur ref weight p list g c past =
     run-past _ p wide c past list _ ∙ run-past _ p wide c past list _ ∙ run-past _ p wide c past list g

@@ -3,7 +3,7 @@
 use mathlib.Core.Path.{_≡_, refl, sym, ap, subst, _∙_}
 use mathlib.Core.Bool.{Bool, true, _&&_, _||_}
 use mathlib.Core.List.{List, [], _∷_, _++_, append-assoc}
-use Prim.Native.Nat.{ℕ, _<_}
+use Prim.Native.Nat.{ℕ, _<_, _^_}
 use native.Mathlib.Omega.{arith}
 use borrow.Author.Tests.{lt-ltb, eq-eqb}
 use lib.Dec.{eqb}
@@ -12,7 +12,7 @@ use lib.Seq.{getD-append-seam}
 use Rattle.motion.specs.Superblock.{superblocksAlong, superblocks}
 use Rattle.grid.specs.Grid.{Grid}
 use Rattle.grid.specs.Previous.{previous}
-use Rattle.refusal.specs.Tests.{refuse, _then_, sideOk, levelOk, planesRefusal, gridOk, gridHolds, gridsHold}
+use Rattle.refusal.specs.Refusals.{refuse, _then_, sideOk, levelOk, planesRefusal, gridOk, gridHolds, gridsHold}
 use Rattle.refusal.proofs.RefusalLaws.{first-passed, passes, none-of}
 use Rattle.estimate.specs.Inputs.{Inputs, Planes, planeAt}
 use Rattle.superblock.specs.Step.{windowsOk, step}
@@ -24,10 +24,11 @@ use Rattle.steps.specs.Steps.{stepTests, stepRefusal, stepGrid}
 use Rattle.steps.proofs.OutcomeLaws.{step-done}
 use Rattle.inter.specs.Runs.{lentRefusal, runTests, runRefusal, runGrid}
 use Rattle.inter.proofs.ReadyLaws.{list-inside}
-use Rattle.theorems.specs.Order.{Windowed, stepCalls, AllZero, PublicStep}
+use Rattle.theorems.specs.Steps.{Windowed, stepCalls, AllZero, StepsLeave}
+use Rattle.theorems.specs.Demand3.{OfSamples}
 use Rattle.theorems.proofs.NoEight.{never-eight}
 
--- number 5 looks at lengths alone
+-- refusal 5 looks at lengths alone
 holds-long : (width height present : ℕ) (prev : Grid) {g now : Grid} → AsLong g now → gridsHold width height present prev g ≡ true → gridsHold width height present prev now ≡ true
 unfolding gridsHold gridHolds
 holds-long width height present prev {g} {now} long e =
@@ -54,20 +55,20 @@ abbrev Inside : ℕ → ℕ → List ℕ → Type 0
 Inside width height ns = (front back : List ℕ) (n : ℕ) → ns ≡ front ++ n ∷ back → n < superblocks width height
 
 -- the calls of a level are its run
-module _ (width height level : ℕ) (cur ref : Planes) (present : ℕ) (prev : Grid) where
+module _ (width height level : ℕ) (cur ref : Planes) (present : ℕ) (prev : Grid) (weight : ℕ) where
   abbrev inputs : Inputs
-  inputs = inputsAt width height cur ref 0 level
+  inputs = inputsAt width height cur ref weight level
 
   abbrev Tests : Grid → Type 0
   Tests g = LevelTests width height level (planeAt cur level) (planeAt ref level) present prev g
 
-  call-is : (g : Grid) → Tests g → (n : ℕ) → n < superblocks width height → windowsOk width height level n (g .rows) (g .cols) ≡ true → (stepRefusal width height level n (planeAt cur level) (planeAt ref level) present prev g ≡ 0) × (stepGrid width height level n (planeAt cur level) (planeAt ref level) present prev g ≡ step inputs (previous present prev) n g)
+  call-is : (g : Grid) → Tests g → (n : ℕ) → n < superblocks width height → windowsOk width height level n (g .rows) (g .cols) ≡ true → (stepRefusal width height level n (planeAt cur level) (planeAt ref level) present prev g ≡ 0) × (stepGrid width height level n (planeAt cur level) (planeAt ref level) present prev weight g ≡ step inputs (previous present prev) n g)
   unfolding inputsAt
   call-is g t n h ok =
-      let done = step-done width height level n (planeAt cur level) (planeAt ref level) present prev g {left = step inputs (previous present prev) n g} (step-passes width height level (planeAt cur level) (planeAt ref level) present prev g t n h) ok refl in
+      let done = step-done width height level n (planeAt cur level) (planeAt ref level) present prev weight g {left = step inputs (previous present prev) n g} (step-passes width height level (planeAt cur level) (planeAt ref level) present prev g t n h) ok refl in
       (sym (done .0), sym (done .1))
 
-  pub calls-run : (ns : List ℕ) (g : Grid) → Tests g → Inside width height ns → Windowed inputs (previous present prev) ns g → (stepCalls width height level cur ref present prev ns g ≡ levelRun inputs (previous present prev) ns g) × Tests (levelRun inputs (previous present prev) ns g)
+  pub calls-run : (ns : List ℕ) (g : Grid) → Tests g → Inside width height ns → Windowed inputs (previous present prev) ns g → (stepCalls width height level cur ref present prev weight ns g ≡ levelRun inputs (previous present prev) ns g) × Tests (levelRun inputs (previous present prev) ns g)
   unfolding stepCalls levelRun inputsAt
   calls-run [] g t inside windows = (refl, t)
   calls-run (n ∷ ns) g t inside windows =
@@ -75,10 +76,10 @@ module _ (width height level : ℕ) (cur ref : Planes) (present : ℕ) (prev : G
       let one = call-is g t n (inside [] ns n refl) (windows [] ns n refl) in
       let next = tests-long width height level (planeAt cur level) (planeAt ref level) present prev (step-long inputs p n g) t in
       let rest = calls-run ns (step inputs p n g) next (λ front back m e. inside (n ∷ front) back m (ap (λ (xs : List ℕ). n ∷ xs) e)) (λ front back m e. windows (n ∷ front) back m (ap (λ (xs : List ℕ). n ∷ xs) e)) in
-      (ap (stepCalls width height level cur ref present prev ns) (one .1) ∙ rest .0, rest .1)
+      (ap (stepCalls width height level cur ref present prev weight ns) (one .1) ∙ rest .0, rest .1)
 
   -- each of them answers 0
-  pub calls-zero : (list : List ℕ) (g : Grid) → Tests g → Inside width height list → Windowed inputs (previous present prev) list g → AllZero width height level cur ref present prev list g
+  pub calls-zero : (list : List ℕ) (g : Grid) → Tests g → Inside width height list → Windowed inputs (previous present prev) list g → AllZero width height level cur ref present prev weight list g
   unfolding inputsAt
   calls-zero list g t inside windows front back n split =
       let longer : (f b : List ℕ) (m : ℕ) → front ≡ f ++ m ∷ b → list ≡ f ++ m ∷ (b ++ n ∷ back) = λ f b m e. split ∙ ap (λ (xs : List ℕ). xs ++ n ∷ back) e ∙ append-assoc f (m ∷ b) (n ∷ back) in
@@ -113,27 +114,27 @@ standing-inside width height list ok front back n split =
     let here = ap (λ (xs : List ℕ). getD xs (length front) 0) split ∙ getD-append-seam front n back 0 in
     subst (λ (m : ℕ). m < superblocks width height) here (list-inside width height list ok (length front) place)
 
-pub public-step : PublicStep
+pub public-step : (width height : ℕ) (cur ref : Planes) (present : ℕ) (prev : Grid) (weight : ℕ) (list : List ℕ) (g : Grid) → OfSamples cur → OfSamples ref → weight < 2 ^ 32 → runRefusal width height cur ref present prev list g ≡ 0 → StepsLeave width height cur ref present prev weight list g (runGrid width height cur ref present prev weight list g)
 unfolding runRefusal runGrid frameRun
-public-step width height cur ref present prev list g hc hr done =
+public-step width height cur ref present prev weight list g hc hr hw done =
     let none = none-of (runTests width height cur ref present prev g) (listRefusal (superblocksAlong width) (superblocksAlong height) list) done in
     let pass = levels-pass width height cur ref present prev g (none .0) in
     let inside = standing-inside width height list (none .1) in
-    let windows = never-eight width height cur ref present prev list g hc hr done in
+    let windows = never-eight width height cur ref present prev weight list g hc hr hw done in
     let p = previous present prev in
-    let four = calls-run width height 4 cur ref present prev list g (pass .0) inside (windows .at4) in
-    let g3 = levelRun (inputsAt width height cur ref 0 4) p list g in
-    let t3 = tests-long width height 3 (planeAt cur 3) (planeAt ref 3) present prev (run-long (inputsAt width height cur ref 0 4) p list g) (pass .1) in
-    let three = calls-run width height 3 cur ref present prev list g3 t3 inside (windows .at3) in
-    let g2 = levelRun (inputsAt width height cur ref 0 3) p list g3 in
-    let long2 = long-more (run-long (inputsAt width height cur ref 0 4) p list g) (run-long (inputsAt width height cur ref 0 3) p list g3) in
+    let four = calls-run width height 4 cur ref present prev weight list g (pass .0) inside (windows .at4) in
+    let g3 = levelRun (inputsAt width height cur ref weight 4) p list g in
+    let t3 = tests-long width height 3 (planeAt cur 3) (planeAt ref 3) present prev (run-long (inputsAt width height cur ref weight 4) p list g) (pass .1) in
+    let three = calls-run width height 3 cur ref present prev weight list g3 t3 inside (windows .at3) in
+    let g2 = levelRun (inputsAt width height cur ref weight 3) p list g3 in
+    let long2 = long-more (run-long (inputsAt width height cur ref weight 4) p list g) (run-long (inputsAt width height cur ref weight 3) p list g3) in
     let t2 = tests-long width height 2 (planeAt cur 2) (planeAt ref 2) present prev long2 (pass .2) in
-    let two = calls-run width height 2 cur ref present prev list g2 t2 inside (windows .at2) in
-    let back3 : (h : Grid) → h ≡ g3 → AllZero width height 3 cur ref present prev list h = λ h e. subst (AllZero width height 3 cur ref present prev list) (sym e) (calls-zero width height 3 cur ref present prev list g3 t3 inside (windows .at3)) in
-    let after3 = ap (stepCalls width height 3 cur ref present prev list) (four .0) ∙ three .0 in
+    let two = calls-run width height 2 cur ref present prev weight list g2 t2 inside (windows .at2) in
+    let back3 : (h : Grid) → h ≡ g3 → AllZero width height 3 cur ref present prev weight list h = λ h e. subst (AllZero width height 3 cur ref present prev weight list) (sym e) (calls-zero width height 3 cur ref present prev weight list g3 t3 inside (windows .at3)) in
+    let after3 = ap (stepCalls width height 3 cur ref present prev weight list) (four .0) ∙ three .0 in
     record {
-      at4 = calls-zero width height 4 cur ref present prev list g (pass .0) inside (windows .at4);
-      at3 = back3 (stepCalls width height 4 cur ref present prev list g) (four .0);
-      at2 = subst (AllZero width height 2 cur ref present prev list) (sym after3) (calls-zero width height 2 cur ref present prev list g2 t2 inside (windows .at2));
-      last = ap (stepCalls width height 2 cur ref present prev list) after3 ∙ two .0 ∙ rw (eq-eqb _ 0 done);
+      at4 = calls-zero width height 4 cur ref present prev weight list g (pass .0) inside (windows .at4);
+      at3 = back3 (stepCalls width height 4 cur ref present prev weight list g) (four .0);
+      at2 = subst (AllZero width height 2 cur ref present prev weight list) (sym after3) (calls-zero width height 2 cur ref present prev weight list g2 t2 inside (windows .at2));
+      last = ap (stepCalls width height 2 cur ref present prev weight list) after3 ∙ two .0 ∙ rw (eq-eqb _ 0 done);
     }

@@ -9,11 +9,11 @@ use native.Mathlib.Nat.{eq-zero-or-pos}
 use native.Mathlib.Omega.{arith}
 use lib.IntN.{pos}
 use lib.ListN.{length, getD, List·getD-eq-default}
+use Rattle.ground.proofs.TestLaws.{tested, not-so}
+use Rattle.ground.proofs.EveryLaws.{below-same}
 use Rattle.motion.specs.Level.{levelOf}
 use Rattle.motion.specs.Frame.{Side}
 use Rattle.motion.specs.Superblock.{superblocks}
-use Rattle.motion.proofs.TestLaws.{tested, not-so}
-use Rattle.motion.proofs.EveryLaws.{below-same}
 use Rattle.grid.specs.declared.cells.MEStats.{MEStats}
 use Rattle.grid.specs.Grid.{Grid, cellAt, storedAt, statsAt}
 use Rattle.grid.specs.Previous.{Previous}

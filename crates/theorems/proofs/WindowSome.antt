@@ -9,6 +9,8 @@ use lib.IntN.{ℤ, pos, negsuc, natAbs, _+ℤ_, _-ℤ_, _*ℤ_}
 use lib.Signed.{mag, ltZ, leZ, quotZ, shrZ}
 use mir.Syntax.{w16}
 use mir.Val.{SFits}
+use Rattle.ground.proofs.Bias.{bias, Small, bias-add, bias-minus, bias-negpos, bias-shr2, leZ-bias, ltZ-bias, small-by, up-bias}
+use Rattle.ground.proofs.Words.{shr-fits, eighth-bounds}
 use Rattle.motion.specs.declared.vector.MotionVector.{MotionVector}
 use Rattle.motion.specs.Limits.{cellSide}
 use Rattle.motion.specs.Vector.{shlV}
@@ -16,8 +18,6 @@ use Rattle.motion.specs.Level.{levelOf}
 use Rattle.motion.specs.Frame.{Side, Starts, Sized, own4, own3, refined3, refined2}
 use Rattle.motion.specs.Range.{mvMin, mvMax, clip, rangeOf, within, inRange}
 use Rattle.motion.specs.Block.{croppedTo, blockOf}
-use Rattle.motion.proofs.Bias.{bias, Small, bias-add, bias-minus, bias-negpos, bias-shr2, leZ-bias, ltZ-bias, small-by, up-bias}
-use Rattle.motion.proofs.Words.{shr-fits, eighth-bounds}
 use Rattle.motion.proofs.RangeLaws.{within-parts, in-range-parts}
 use Rattle.motion.proofs.AxisLaws.{fitting, start-inside, crop-most, low-is, high-is}
 use Rattle.motion.proofs.BlockLaws.{Ends, straddles, shl-fits}

@@ -4,13 +4,13 @@ use mathlib.Core.Bool.{true}
 use mathlib.Core.List.{List}
 use Prim.Native.Nat.{ℕ, suc, _<_}
 use lib.IntN.{ℤ}
+use Rattle.ground.specs.Every.{allBelow}
+use Rattle.ground.proofs.EveryLaws.{below-of}
 use Rattle.motion.specs.declared.vector.MotionVector.{MotionVector}
-use Rattle.motion.specs.Every.{allBelow}
 use Rattle.motion.specs.Level.{levelOf}
 use Rattle.motion.specs.Frame.{Side, Starts}
 use Rattle.motion.specs.Block.{blockOf}
 use Rattle.motion.specs.Superblock.{superblocks}
-use Rattle.motion.proofs.EveryLaws.{below-of}
 use Rattle.grid.specs.declared.cells.MEStats.{MEStats}
 use Rattle.grid.specs.Grid.{Grid, Held, cellAt, statsAt}
 use Rattle.grid.specs.Previous.{Previous}

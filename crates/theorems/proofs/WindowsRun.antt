@@ -7,10 +7,10 @@ use Prim.Native.Nat.{ℕ, suc, _+_, _*_, _/_, _%_, _≤_, _<_}
 use native.Mathlib.Nat.{mul-comm, mod-lt, div-add-mod', div-lt-iff-lt-mul}
 use native.Mathlib.Omega.{arith}
 use lib.Dec.{ltb}
+use Rattle.ground.proofs.TestLaws.{both, not-so}
 use Rattle.motion.specs.Limits.{cellSide, superblockSide}
 use Rattle.motion.specs.Frame.{Side}
 use Rattle.motion.specs.Superblock.{superblocksAlong, superblocks, superblockX, superblockY}
-use Rattle.motion.proofs.TestLaws.{both, not-so}
 use Rattle.grid.specs.Grid.{Grid, Held, cellAt, statsAt}
 use Rattle.grid.specs.Previous.{Previous}
 use Rattle.grid.specs.Save.{upTo}
@@ -25,7 +25,8 @@ use Rattle.order.specs.List.{times}
 use Rattle.order.proofs.TimesLaws.{times-here, times-append}
 use Rattle.order.proofs.Accepted.{accepted, occurs-below}
 use Rattle.theorems.specs.Cells.{ownCell}
-use Rattle.theorems.specs.Order.{AcceptedList, Windowed, RunWindowed}
+use Rattle.theorems.specs.Steps.{Windowed, RunWindowed}
+use Rattle.theorems.proofs.OrderLaws.{AcceptedList}
 use Rattle.theorems.proofs.WindowSome.{Refines, three-64, two-32}
 use Rattle.theorems.proofs.StepReads.{step-outside}
 use Rattle.theorems.proofs.EstimateStored.{Bytes}

@@ -10,7 +10,7 @@ use Rattle.grid.specs.Save.{covers}
 use Rattle.order.specs.List.{sharesEdge}
 
 -- a cell of superblock n, cropped at the frame
-unfoldable pub ownCell : ℕ → ℕ → ℕ → ℕ → Bool
+unfoldable pub ownCell : (width height n c : ℕ) → Bool
 ownCell width height n c = covers width height superblockSide (superblockX width n) (superblockY width n) c
 
 -- two superblocks that share an edge

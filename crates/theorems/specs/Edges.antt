@@ -1,6 +1,6 @@
 -- Document 01's cases at the edges, in a single table.
 use mathlib.Core.Path.{_≡_}
-use mathlib.Core.List.{[], _∷_}
+use mathlib.Core.List.{List, [], _∷_}
 use Prim.Native.Nat.{ℕ, _*_, _^_}
 use lib.IntN.{ℤ, pos, negℤ}
 use lib.Signed.{shrZ, quotZ}
@@ -10,27 +10,34 @@ use Rattle.motion.specs.Vector.{fullpel}
 use Rattle.motion.specs.Rate.{rate}
 use Rattle.motion.specs.Level.{levelOf}
 use Rattle.motion.specs.Block.{blockOf}
+use Rattle.grid.specs.Grid.{Grid}
 use Rattle.search.specs.declared.result.MotionSearchResult.{MotionSearchResult}
 use Rattle.search.specs.Result.{CostOf, emptyResult}
 use Rattle.search.specs.Hexagon.{tryIndex, hexagonThree}
 use Rattle.predict.specs.Predictors.{leastOf, minimumSad}
+use Rattle.estimate.specs.Inputs.{Planes}
 use Rattle.estimate.specs.Block.{statsOf}
-use Rattle.order.specs.List.{listRefusal}
+use Rattle.inter.specs.Runs.{runTests, runRefusal}
 
 -- the columns that a block of level 4 at column bx of the cells searches, whatever the frame's height and the block's row
-abbrev pub Columns4 : ℕ → ℕ → ℤ → ℤ → Type 0
+abbrev pub Columns4 : (width bx : ℕ) (low high : ℤ) → Type 0
 Columns4 width bx low high =
     (height by : ℕ) → let r : MvRange = blockOf width height (levelOf 4) (levelOf 4 .«mv_size») bx by .range in (r .«mvx_min» ≡ low) × (r .«mvx_max» ≡ high)
 
 -- a result of this SAD on w by h pixels has this normalised SAD, whatever its vector, its cost and the shift, and back
-abbrev pub Normalised : ℕ → ℕ → ℕ → ℕ → ℕ → Type 0
+abbrev pub Normalised : (sad w h there back : ℕ) → Type 0
 Normalised sad w h there back =
     ((s : ℕ) (best : MotionSearchResult) → best .rd .sad ≡ sad → statsOf s w h best .«normalized_sad» ≡ there) × (minimumSad there (w * h) ≡ back)
 
 -- a round from index i tries these three points, in this order, whatever the costs and the centre
-abbrev pub Tries : ℕ → ℕ → ℕ → ℕ → Type 0
+abbrev pub Tries : (i first second third : ℕ) → Type 0
 Tries i first second third =
     (rd : CostOf) (centre : MotionVector) → hexagonThree rd centre i ≡ tryIndex rd centre (tryIndex rd centre (tryIndex rd centre (record { idx = i; best = emptyResult }) first) second) third
+
+-- a run of 128 by 64, two superblocks side by side, which refusals 1, 4 and 5 let through, answers a list with this
+abbrev pub Answers : List ℕ → ℕ → Type 0
+Answers list number =
+    (cur ref : Planes) (present : ℕ) (prev g : Grid) → runTests 128 64 cur ref present prev g ≡ 0 → runRefusal 128 64 cur ref present prev list g ≡ number
 
 pub record EdgeCases : Type 0 where
   -- E1 W=64, bx=0, level 4: columns −160..160
@@ -52,4 +59,4 @@ pub record EdgeCases : Type 0 where
   -- E9 no sample, 16×16: minimum SAD 67,108,863
   pub e9 : minimumSad (leastOf []) (16 * 16) ≡ 67108863
   -- E10 two superblocks side by side: list 0 1 accepted, 1 0 refused 7, 0 0 refused 6, empty refused 6
-  pub e10 : (listRefusal 2 1 (0 ∷ 1 ∷ []) ≡ 0) × (listRefusal 2 1 (1 ∷ 0 ∷ []) ≡ 7) × (listRefusal 2 1 (0 ∷ 0 ∷ []) ≡ 6) × (listRefusal 2 1 [] ≡ 6)
+  pub e10 : Answers (0 ∷ 1 ∷ []) 0 × Answers (1 ∷ 0 ∷ []) 7 × Answers (0 ∷ 0 ∷ []) 6 × Answers [] 6

@@ -4,7 +4,7 @@ use borrow.Author.Tests.{eq-eqb, ne-eqb, le-leb, lt-leb}
 use mathlib.Core.Path.{_≡_, refl, sym, _∙_}
 use Prim.Native.Nat.{_*_}
 use lib.Dec.{leb}
-use Rattle.refusal.specs.Tests.{refuse, _then_}
+use Rattle.refusal.specs.Refusals.{refuse, _then_}
 use Rattle.refusal.proofs.RefusalLaws.{first-is, then-later}
 use Rattle.compare.specs.Answer.{compareRefusal}
 use Rattle.compare.proofs.AnswerLaws.{cells-most, room-decides}

@@ -11,7 +11,7 @@ use Rattle.compare.proofs.AnswerLaws.{cells-most, both-hold, counted-an
 use Rattle.compare.proofs.calls.lockdapple_grids_compare.Statement.{statement}
 use Rattle.compare.proofs.calls.lockdapple_grids_compare.Tie as tie
 
--- the number, of the two grids lent
+-- the refusal, of the two grids lent
 module _ (c : tie.After-compare-refusal) where
   abbrev entry : tie.Start
   entry = c .before .before .before .before .before

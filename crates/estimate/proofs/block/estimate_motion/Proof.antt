@@ -8,13 +8,14 @@ use lib.ListN.{length}
 use denote.Ref.{now}
 use Rattle.motion.specs.declared.level.Level.{Level}
 use Rattle.motion.specs.declared.block.Block.{Block}
+use Rattle.motion.specs.Limits.{largestSample}
 use Rattle.motion.specs.Vector.{zeroV}
 use Rattle.motion.specs.Range.{inRange}
 use Rattle.motion.specs.Level.{levelOf}
 use Rattle.motion.specs.Frame.{Sized}
 use Rattle.motion.specs.Block.{blockOf}
 use Rattle.grid.specs.Grid.{gridOf}
-use Rattle.sad.specs.Plane.{Lies}
+use Rattle.sad.specs.Asked.{Lies}
 use Rattle.sad.specs.Cost.{rdAt}
 use Rattle.sad.proofs.Sums.{Under}
 use Rattle.search.specs.declared.result.MotionSearchResult.{MotionSearchResult}
@@ -22,7 +23,8 @@ use Rattle.search.proofs.FoundLaws.{Settled}
 use Rattle.predict.specs.declared.predictors.MotionEstimationSubsets.{MotionEstimationSubsets}
 use Rattle.predict.specs.Predictors.{subsetsOf}
 use Rattle.predict.proofs.SubsetLaws.{Sound, subsets-sound}
-use Rattle.estimate.specs.Block.{Listed, blockIn, costIn, fullPixelMe, statsOf, estimateMotion}
+use Rattle.estimate.specs.Block.{blockIn, costIn, fullPixelMe, statsOf, estimateMotion}
+use Rattle.estimate.specs.Asked.{Listed}
 use Rattle.estimate.proofs.BlockFacts.{own-sized, level-most, place-most, listed, block-lies, block-zero, block-saves, fullPixelMe-settled}
 use Rattle.estimate.proofs.block.estimate_motion.Statement.{statement}
 use Rattle.estimate.proofs.block.estimate_motion.Tie as tie
@@ -97,8 +99,8 @@ stats-of-requires c κs =
     let ref = now (a .reference) in
     let ready = entry .pre .0 in
     let starts = entry .pre .1 .1 .0 in
-    let hc : Under 255 cur = λ i. omega (arith, second .before .shared-slice-known .given i) in
-    let hr : Under 255 ref = λ i. omega (arith, second .shared-slice-known2 .given i) in
+    let hc : Under largestSample cur = λ i. omega (arith, second .before .shared-slice-known .given i) in
+    let hr : Under largestSample ref = λ i. omega (arith, second .shared-slice-known2 .given i) in
     let z = block-zero ready (sized entry) (starts .0) (starts .1) in
     let m = block-lies ready (sized entry) (starts .0) (starts .1) .0 .measured in
     let s = fullPixelMe-settled (block entry) cur ref (a .lambda) z m hc hr (omega (arith, entry .fits .lambda)) (mvs entry) (sound entry) (a .level) in

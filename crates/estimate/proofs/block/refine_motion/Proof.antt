@@ -9,21 +9,23 @@ use native.Mathlib.Omega.{arith}
 use lib.Dec.{ltb}
 use lib.ListN.{length}
 use denote.Ref.{now}
+use Rattle.ground.proofs.TestLaws.{both}
 use Rattle.motion.specs.declared.level.Level.{Level}
 use Rattle.motion.specs.declared.block.Block.{Block}
 use Rattle.motion.specs.declared.range.MvRange.{MvRange}
 use Rattle.motion.specs.declared.vector.MotionVector.{MotionVector}
+use Rattle.motion.specs.Limits.{largestSample}
 use Rattle.motion.specs.Vector.{FitsV}
 use Rattle.motion.specs.Level.{levelOf}
 use Rattle.motion.specs.Frame.{Sized}
 use Rattle.motion.specs.Block.{blockOf}
 use Rattle.motion.proofs.BlockLaws.{Straddles, straddles}
-use Rattle.motion.proofs.TestLaws.{both}
-use Rattle.sad.specs.Plane.{Lies}
+use Rattle.sad.specs.Asked.{Lies}
 use Rattle.sad.specs.Cost.{rdAt}
 use Rattle.sad.proofs.Sums.{Under}
 use Rattle.points.specs.declared.window.Window.{Window}
-use Rattle.points.specs.Window.{Spanned, refineWindow, windowOk}
+use Rattle.points.specs.Window.{refineWindow, windowOk}
+use Rattle.points.specs.Asked.{Spanned}
 use Rattle.points.proofs.SpanLaws.{refine-spanned}
 use Rattle.search.specs.declared.result.MotionSearchResult.{MotionSearchResult}
 use Rattle.search.specs.Full.{fullSearch, refine}
@@ -139,8 +141,8 @@ stats-of-requires c κs =
     let ready = entry .pre .0 in
     let starts = entry .pre .1 .0 in
     let s = levelOf (a .level) .ssdec in
-    let hc : Under 255 cur = λ i. omega (arith, second .before .shared-slice-known .given i) in
-    let hr : Under 255 ref = λ i. omega (arith, second .shared-slice-known2 .given i) in
+    let hc : Under largestSample cur = λ i. omega (arith, second .before .shared-slice-known .given i) in
+    let hr : Under largestSample ref = λ i. omega (arith, second .shared-slice-known2 .given i) in
     let m = block-lies ready (sized entry) (starts .0) (starts .1) .0 .measured in
     let any = some (refineWindow (block entry .range) (stored entry) s) (entry .pre .1 .1 .1) in
     let found = refine-settled (block entry) cur ref (a .lambda) m hc hr (omega (arith, entry .fits .lambda)) (zero-between entry) (stored entry) (stored-fits first) s (any .0) (any .1) in

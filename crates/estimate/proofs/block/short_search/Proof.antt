@@ -8,7 +8,8 @@ use Rattle.search.specs.declared.result.MotionSearchResult.{MotionSearchResult}
 use Rattle.search.specs.Result.{CostOf, emptyResult, tryOne}
 use Rattle.search.specs.Diamond.{diamond}
 use Rattle.search.proofs.InRange.{Ranged}
-use Rattle.estimate.specs.Block.{Honest, tryMvs, shortSearch}
+use Rattle.estimate.specs.Block.{tryMvs, shortSearch}
+use Rattle.estimate.specs.Asked.{Honest}
 use Rattle.estimate.proofs.BlockFacts.{loose-centre, loose-near, loose-short}
 use Rattle.estimate.proofs.block.short_search.Statement.{statement}
 use Rattle.estimate.proofs.block.short_search.Tie as tie

@@ -1,10 +1,11 @@
--- `estimate::block::stats_of` meets its contract: a block of bytes has at most 255 a sample, so that its normalised SAD is below 2 ^ 22.
+-- `estimate::block::stats_of` meets its contract: a block has at most 65,535 a sample, so that its normalised SAD is below 2 ^ 22.
 -- Assumes nothing.
 use borrow.Author.Needs.{needs}
 use mathlib.Core.Path.{_≡_, ap}
 use Prim.Native.Nat.{ℕ, _*_, _/_, _%_, _^_, _≤_, _<_}
 use native.Mathlib.Nat.{mul-le-mul, div-le-of-le-mul}
 use native.Mathlib.Omega.{arith}
+use Rattle.motion.specs.Limits.{largestSample}
 use Rattle.estimate.specs.Block.{statsOf}
 use Rattle.estimate.proofs.block.stats_of.Statement.{statement}
 use Rattle.estimate.proofs.block.stats_of.Tie as tie
@@ -20,7 +21,7 @@ module _ (c : tie.Start) where
   shifted : c .args .best .rd .sad * 2 ^ 14 % 2 ^ 64 ≡ c .args .best .rd .sad * 2 ^ 14
   shifted = omega (arith, area-most)
 
-  normal-most : c .args .best .rd .sad * 2 ^ 14 / (c .args .w * c .args .h) ≤ 255 * 2 ^ 14
+  normal-most : c .args .best .rd .sad * 2 ^ 14 / (c .args .w * c .args .h) ≤ largestSample * 2 ^ 14
   normal-most = div-le-of-le-mul (c .args .w * c .args .h) (omega arith)
 
 shl-requires : tie.Need-shl-requires

@@ -9,7 +9,8 @@ use Rattle.search.specs.Result.{CostOf, emptyResult}
 use Rattle.search.specs.Diamond.{diamond}
 use Rattle.search.proofs.InRange.{Ranged}
 use Rattle.search.proofs.FoundLaws.{LooseKept, loose-empty}
-use Rattle.estimate.specs.Block.{Honest, tryMvs, tryCands}
+use Rattle.estimate.specs.Block.{tryMvs, tryCands}
+use Rattle.estimate.specs.Asked.{Honest}
 use Rattle.estimate.proofs.BlockFacts.{loose-mvs}
 use Rattle.estimate.proofs.block.try_cands.Statement.{statement}
 use Rattle.estimate.proofs.block.try_cands.Tie as tie

@@ -11,7 +11,8 @@ use Rattle.sad.specs.Cost.{rdAt}
 use Rattle.search.specs.declared.result.MotionSearchResult.{MotionSearchResult}
 use Rattle.search.specs.Result.{tryOne, tryEach}
 use Rattle.search.proofs.ResultLaws.{each-none, each-more}
-use Rattle.estimate.specs.Block.{Honest, tryMvs}
+use Rattle.estimate.specs.Block.{tryMvs}
+use Rattle.estimate.specs.Asked.{Honest}
 use Rattle.estimate.proofs.BlockFacts.{honest-one}
 use Rattle.estimate.proofs.block.try_mvs.Statement.{statement}
 use Rattle.estimate.proofs.block.try_mvs.Tie as tie

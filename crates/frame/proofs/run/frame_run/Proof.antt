@@ -5,7 +5,8 @@ use mathlib.Core.Path.{sym, ap, subst, _∙_}
 use denote.Ref.{now}
 use Rattle.grid.specs.Grid.{Grid, Held, gridOf}
 use Rattle.grid.specs.Previous.{Previous, previousOf}
-use Rattle.estimate.specs.Inputs.{Inputs, inputsOf, four, three, two, planeAt}
+use Rattle.estimate.specs.Inputs.{Inputs, inputsOf, planeAt}
+use Rattle.estimate.specs.Asked.{four, three, two}
 use Rattle.frame.specs.Run.{levelRun, inputsAt, frameRun}
 use Rattle.frame.proofs.RunLaws.{held-run}
 use Rattle.frame.proofs.run.frame_run.Statement.{statement}

@@ -7,7 +7,7 @@ use borrow.Author.Tests.{eq-eqb, ne-eqb}
 use lib.Dec.{eqb}
 use lib.ListN.{drop}
 use denote.Ref.{now}
-use Rattle.motion.proofs.TestLaws.{passed, failed}
+use Rattle.ground.proofs.TestLaws.{passed, failed}
 use Rattle.records.specs.Records.{headerBytes, fileBytes}
 use Rattle.gridfile.specs.Reading.{between, taken, ended}
 use Rattle.gridfile.proofs.WriteLaws.{shape-most}
@@ -56,7 +56,7 @@ add-mark-refusal c = omega (arith, c .before .before .before .before .pre)
 mark-refusal-requires : tie.Need-mark-refusal-requires
 mark-refusal-requires c κs = omega (arith, c .before .before .before .before .pre)
 
--- the number of a file that ends in the record after those that are there
+-- the refusal of a file that ends in the record after those that are there
 module _ (c : tie.After-mark-refusal) where
   abbrev entry : tie.Start
   entry = c .before .before .before .before .before

@@ -11,7 +11,7 @@ use Rattle.gridfile.proofs.HeaderLaws.{markNumber, headNumber, rest-num
 use Rattle.gridfile.proofs.read.header_refusal.Statement.{statement}
 use Rattle.gridfile.proofs.read.header_refusal.Tie as tie
 
--- the mark is right, so that the number is that of what comes after it
+-- the mark is right, so that the refusal is that of what comes after it
 after-mark : (c : tie.Else1) → headNumber (c .before .before .before .args .room) (now (c .before .before .before .args .file)) ≡ rest-number (c .before .before .before .args .room) (now (c .before .before .before .args .file))
 after-mark c =
     let a = c .before .before .before .args in

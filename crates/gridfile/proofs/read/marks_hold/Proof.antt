@@ -5,8 +5,8 @@ use Prim.Native.Nat.{ℕ, _+_, _-_, _≤_}
 use native.Mathlib.Omega.{arith}
 use lib.ListN.{length}
 use denote.Ref.{now}
-use Rattle.motion.specs.Every.{allBelow}
-use Rattle.motion.proofs.EveryLaws.{below-none, below-more, below-fails}
+use Rattle.ground.specs.Every.{allBelow}
+use Rattle.ground.proofs.EveryLaws.{below-none, below-more, below-fails}
 use Rattle.records.specs.Records.{fileBytes}
 use Rattle.gridfile.proofs.MarkLaws.{mark-holds, mark-fails}
 use Rattle.gridfile.proofs.PlaceLaws.{cellMarked}

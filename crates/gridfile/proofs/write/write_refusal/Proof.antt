@@ -6,10 +6,10 @@ use mathlib.Core.Path.{_≡_}
 use mathlib.Core.Bool.{true, _&&_}
 use Prim.Native.Nat.{_*_, _/_, _^_, _≤_}
 use native.Mathlib.Omega.{arith}
+use Rattle.ground.proofs.TestLaws.{passed, failed}
 use Rattle.motion.specs.Limits.{largestSide, cellSide}
-use Rattle.motion.proofs.TestLaws.{passed, failed}
 use Rattle.grid.specs.Grid.{cells}
-use Rattle.refusal.specs.Tests.{refuse, _then_, sideOk, gridHolds}
+use Rattle.refusal.specs.Refusals.{refuse, _then_, sideOk, gridHolds}
 use Rattle.refusal.proofs.RefusalLaws.{side-of}
 use Rattle.records.specs.Records.{fileBytes}
 use Rattle.gridfile.specs.Writing.{writeRefusal}

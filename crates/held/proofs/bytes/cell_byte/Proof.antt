@@ -6,7 +6,7 @@ use Prim.Native.Nat.{ℕ, suc, _*_, _^_, _≤_}
 use native.Mathlib.Numerals.{add-one}
 use native.Mathlib.Omega.{arith}
 use borrow.Author.Tests.{ne-eqb}
-use Rattle.motion.proofs.TestLaws.{passed, failed}
+use Rattle.ground.proofs.TestLaws.{passed, failed}
 use Rattle.records.specs.Records.{cellBytes}
 use Rattle.gridfile.proofs.WriteLaws.{shape-most}
 use Rattle.held.specs.Held.{plain, recordBytes, readerOf}

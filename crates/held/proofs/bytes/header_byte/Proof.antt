@@ -6,7 +6,7 @@ use native.Mathlib.Omega.{arith}
 use lib.ListN.{getD}
 use mir.Syntax.{w8}
 use mir.Val.{Fits}
-use Rattle.motion.proofs.TestLaws.{passed, failed}
+use Rattle.ground.proofs.TestLaws.{passed, failed}
 use Rattle.records.specs.Records.{headerBytes}
 use Rattle.held.specs.Held.{recordBytes, readerOf}
 use Rattle.held.proofs.OpenLaws.{Open, opened}

@@ -10,7 +10,7 @@ use Rattle.held.specs.Held.{plain, readerOf}
 use Rattle.held.proofs.bytes.header_end.Statement.{statement}
 use Rattle.held.proofs.bytes.header_end.Tie as tie
 
--- the number that a header ends with
+-- the refusal that a header ends with
 ends : (room columns rows : ℕ) {n : ℕ} → headerEnd room columns rows .code ≡ n → readerOf (plain n columns rows 0) ≡ readerOf (headerEnd room columns rows)
 unfolding headerEnd
 ends room columns rows e = ap (λ (n : ℕ). readerOf (plain n columns rows 0)) (sym e)

@@ -6,9 +6,9 @@ use mathlib.Core.Bool.{true, _&&_}
 use Prim.Native.Nat.{_≤_}
 use lib.ListN.{length}
 use denote.Ref.{now}
+use Rattle.ground.proofs.TestLaws.{passed, failed}
 use Rattle.motion.specs.Limits.{largestSide}
-use Rattle.motion.proofs.TestLaws.{passed, failed}
-use Rattle.refusal.specs.Tests.{refuse, _then_, sideOk, planesRefusal}
+use Rattle.refusal.specs.Refusals.{refuse, _then_, sideOk, planesRefusal}
 use Rattle.refusal.proofs.RefusalLaws.{side-of, planes-short}
 use Rattle.estimate.specs.Inputs.{planeAt}
 use Rattle.inter.specs.Runs.{lentRefusal, runTests}

@@ -5,9 +5,9 @@ use mathlib.Core.Bool.{Bool, true, false, not, _&&_}
 use lib.IntN.{ℤ}
 use lib.Signed.{ltZ, leZ}
 use mir.Syntax.{w16}
+use Rattle.ground.proofs.Bias.{leZ-not-lt}
+use Rattle.ground.proofs.Words.{lt-plain, le-plain}
 use Rattle.motion.specs.Range.{within}
-use Rattle.motion.proofs.Bias.{leZ-not-lt}
-use Rattle.motion.proofs.Words.{lt-plain, le-plain}
 use Rattle.motion.proofs.range.between.Statement.{statement}
 use Rattle.motion.proofs.range.between.Tie as tie
 

@@ -3,8 +3,8 @@
 use borrow.Author.Needs.{needs}
 use mathlib.Core.Path.{_∙_}
 use mir.Syntax.{w16}
+use Rattle.ground.proofs.Words.{back}
 use Rattle.motion.specs.Range.{rangeOf}
-use Rattle.motion.proofs.Words.{back}
 use Rattle.motion.proofs.range.get_mv_range.Statement.{statement}
 use Rattle.motion.proofs.range.get_mv_range.Tie as tie
 

@@ -6,8 +6,8 @@ use Prim.Native.Nat.{_^_}
 use lib.IntN.{ℤ}
 use lib.Signed.{shrZ}
 use mir.Syntax.{w16}
+use Rattle.ground.proofs.Words.{shr-word}
 use Rattle.motion.specs.Range.{clip}
-use Rattle.motion.proofs.Words.{shr-word}
 use Rattle.motion.proofs.RangeLaws.{max-is, clip-up}
 use Rattle.motion.proofs.range.mv_max.Statement.{statement}
 use Rattle.motion.proofs.range.mv_max.Tie as tie

@@ -8,10 +8,10 @@ use lib.IntN.{ℤ, pos, negℤ, _-ℤ_, +ℤ-idl}
 use lib.Signed.{shrZ}
 use mir.Syntax.{w16}
 use mir.Val.{SFits, toZ, ofZ}
+use Rattle.ground.proofs.Bias.{mag-neg}
+use Rattle.ground.proofs.Words.{back, shr-word}
 use Rattle.motion.specs.Limits.{vectorLimit}
 use Rattle.motion.specs.Range.{mvMin, clip}
-use Rattle.motion.proofs.Bias.{mag-neg}
-use Rattle.motion.proofs.Words.{back, shr-word}
 use Rattle.motion.proofs.RangeLaws.{min-is, clip-down}
 use Rattle.motion.proofs.range.mv_min.Statement.{statement}
 use Rattle.motion.proofs.range.mv_min.Tie as tie

@@ -6,8 +6,8 @@ use native.Mathlib.Omega.{arith}
 use lib.Count.{leading-le}
 use lib.IntN.{natAbs}
 use lib.Signed.{shrZ}
+use Rattle.ground.proofs.Words.{shr-word}
 use Rattle.motion.specs.Rate.{bitLength, rate}
-use Rattle.motion.proofs.Words.{shr-word}
 use Rattle.motion.proofs.RateLaws.{zeros-and-length}
 use Rattle.motion.proofs.rate.diff_to_rate.Statement.{statement}
 use Rattle.motion.proofs.rate.diff_to_rate.Tie as tie

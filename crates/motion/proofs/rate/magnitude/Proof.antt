@@ -12,7 +12,7 @@ use lib.Signed.{ltZ, nonNeg, natAbs-le}
 use mir.Syntax.{w16, w32}
 use mir.Val.{SFits, Fits, toZ, ofZ}
 use mir.ValLaws.{toZ-ofZ}
-use Rattle.motion.proofs.Words.{lt-plain}
+use Rattle.ground.proofs.Words.{lt-plain}
 use Rattle.motion.proofs.rate.magnitude.Statement.{statement}
 use Rattle.motion.proofs.rate.magnitude.Tie as tie
 

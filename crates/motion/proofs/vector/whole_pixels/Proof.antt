@@ -5,8 +5,8 @@ use lib.IntN.{pos, _*ℤ_}
 use lib.Signed.{quotZ}
 use mir.Syntax.{w16}
 use mir.ValLaws.{toZ-ofZ, sfits-le}
+use Rattle.ground.proofs.Words.{quot-fits, quot-word, mag-cut}
 use Rattle.motion.specs.Vector.{fullpel}
-use Rattle.motion.proofs.Words.{quot-fits, quot-word, mag-cut}
 use Rattle.motion.proofs.vector.whole_pixels.Statement.{statement}
 use Rattle.motion.proofs.vector.whole_pixels.Tie as tie
 

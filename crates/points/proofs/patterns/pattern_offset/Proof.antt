@@ -4,7 +4,8 @@ use borrow.Author.Needs.{needs}
 use mathlib.Core.Path.{sym, ap, subst, _∙_}
 use Prim.Native.Nat.{_<_}
 use Rattle.points.specs.declared.patterns.Pattern.{Pattern}
-use Rattle.points.specs.Patterns.{Plain, offset, points}
+use Rattle.points.specs.Patterns.{offset, points}
+use Rattle.points.specs.Asked.{Plain}
 use Rattle.points.proofs.patterns.pattern_offset.Statement.{statement}
 use Rattle.points.proofs.patterns.pattern_offset.Tie as tie
 

@@ -3,7 +3,7 @@
 use lib.Dec.{lit<}
 use mir.Syntax.{w16}
 use mir.ValLaws.{toZ-ofZ}
-use Rattle.motion.proofs.Words.{quot-fits, quot-word}
+use Rattle.ground.proofs.Words.{quot-fits, quot-word}
 use Rattle.points.proofs.window.eighth.Statement.{statement}
 use Rattle.points.proofs.window.eighth.Tie as tie
 

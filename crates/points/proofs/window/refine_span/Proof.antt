@@ -9,7 +9,7 @@ use lib.Signed.{mag, quotZ, shrZ}
 use mir.Syntax.{w16}
 use mir.Val.{SFits, toZ, ofZ}
 use mir.ValLaws.{toZ-ofZ}
-use Rattle.motion.proofs.Words.{back, shr-word}
+use Rattle.ground.proofs.Words.{back, shr-word}
 use Rattle.points.specs.Window.{larger, smaller, spanCount, refineSpan}
 use Rattle.points.proofs.SpanLaws.{first-size, last-size, lo-size, hi-size}
 use Rattle.points.proofs.window.refine_span.Statement.{statement}

@@ -4,7 +4,7 @@ use mathlib.Core.Path.{sym, ap, _∙_}
 use mathlib.Core.Bool.{Bool, cond}
 use mir.Syntax.{w16}
 use mir.ValLaws.{toZ-ofZ}
-use Rattle.motion.proofs.Words.{lt-plain}
+use Rattle.ground.proofs.Words.{lt-plain}
 use Rattle.points.specs.Window.{smaller}
 use Rattle.points.proofs.window.smaller_of.Statement.{statement}
 use Rattle.points.proofs.window.smaller_of.Tie as tie

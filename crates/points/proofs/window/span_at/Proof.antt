@@ -8,7 +8,8 @@ use lib.IntN.{ℤ, pos, _+ℤ_, _*ℤ_}
 use mir.Syntax.{w16}
 use mir.Val.{SFits, toZ, ofZ}
 use mir.ValLaws.{toZ-ofZ, toZ-pos}
-use Rattle.points.specs.Window.{Spanned, spanAt}
+use Rattle.points.specs.Window.{spanAt}
+use Rattle.points.specs.Asked.{Spanned}
 use Rattle.points.proofs.SpanLaws.{sum-fits, span-fits}
 use Rattle.points.proofs.window.span_at.Statement.{statement}
 use Rattle.points.proofs.window.span_at.Tie as tie

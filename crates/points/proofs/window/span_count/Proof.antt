@@ -11,8 +11,8 @@ use lib.Signed.{mag, ltZ, nonNeg, natAbs-le}
 use mir.Syntax.{w16, w64}
 use mir.Val.{SFits, Fits, toZ, ofZ}
 use mir.ValLaws.{toZ-ofZ}
-use Rattle.motion.proofs.Bias.{bias, mag-add, mag-negℤ, ltZ-bias, up-bias}
-use Rattle.motion.proofs.Words.{lt-plain}
+use Rattle.ground.proofs.Bias.{bias, mag-add, mag-negℤ, ltZ-bias, up-bias}
+use Rattle.ground.proofs.Words.{lt-plain}
 use Rattle.points.specs.Window.{spanCount}
 use Rattle.points.proofs.SpanLaws.{reach, reach-size}
 use Rattle.points.proofs.window.span_count.Statement.{statement}

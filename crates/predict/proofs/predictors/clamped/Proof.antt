@@ -5,7 +5,7 @@ use mathlib.Core.Bool.{Bool, cond}
 use lib.Signed.{ltZ}
 use mir.Syntax.{w16}
 use mir.ValLaws.{toZ-ofZ}
-use Rattle.motion.proofs.Words.{lt-plain}
+use Rattle.ground.proofs.Words.{lt-plain}
 use Rattle.predict.specs.Predictors.{clampTo}
 use Rattle.predict.proofs.predictors.clamped.Statement.{statement}
 use Rattle.predict.proofs.predictors.clamped.Tie as tie

@@ -8,7 +8,7 @@ use lib.ListN.{getD, take}
 use denote.Ref.{now}
 use mir.Syntax.{w8, w32}
 use mir.Val as val
-use Rattle.motion.proofs.TestLaws.{passed}
+use Rattle.ground.proofs.TestLaws.{passed}
 use Rattle.grid.specs.Grid.{Grid, gridOf, room}
 use Rattle.records.specs.Records.{cellBytes}
 use Rattle.records.specs.Numbers.{OfBytes}

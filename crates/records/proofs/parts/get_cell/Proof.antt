@@ -9,10 +9,11 @@ use lib.Seq.{slice}
 use denote.Ref.{now}
 use mir.Syntax.{w16}
 use mir.Val.{toZ}
-use Rattle.motion.proofs.Words.{back}
+use Rattle.ground.proofs.Words.{back}
+use Rattle.ground.proofs.ListLaws.{slice-slice}
 use Rattle.records.specs.Numbers.{numberOf}
 use Rattle.records.specs.Records.{cellBytes, cellOf}
-use Rattle.records.proofs.NumberLaws.{slice-slice, two-below}
+use Rattle.records.proofs.NumberLaws.{two-below}
 use Rattle.records.proofs.parts.get_cell.Statement.{statement}
 use Rattle.records.proofs.parts.get_cell.Tie as tie
 

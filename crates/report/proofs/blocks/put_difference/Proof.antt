@@ -3,7 +3,7 @@ use borrow.Author.Needs.{needs}
 use mathlib.Core.Path.{sym, ap₂, _∙_}
 use native.Mathlib.Omega.{arith}
 use denote.Ref.{now}
-use Rattle.motion.proofs.TestLaws.{passed, failed}
+use Rattle.ground.proofs.TestLaws.{passed, failed}
 use Rattle.grid.specs.Grid.{Grid, gridOf}
 use Rattle.report.specs.Lines.{cellLine}
 use Rattle.report.proofs.BlockLaws.{put-nothing, put-as, no-line, one-line}

@@ -10,8 +10,9 @@ use lib.Signed.{quotZ, nonNeg, natAbs-le}
 use mir.Syntax.{w16, w64}
 use mir.Val.{SFits, Fits, toZ, ofZ}
 use mir.ValLaws.{toZ-ofZ, toZ-pos}
-use Rattle.motion.proofs.Words.{quot-fits, quot-word}
-use Rattle.sad.specs.Plane.{largestPlace, moved}
+use Rattle.ground.proofs.Words.{quot-fits, quot-word}
+use Rattle.sad.specs.Plane.{moved}
+use Rattle.sad.specs.Asked.{largestPlace}
 use Rattle.sad.proofs.Places.{moved-size, place-size}
 use Rattle.sad.proofs.plane.place.Statement.{statement}
 use Rattle.sad.proofs.plane.place.Tie as tie

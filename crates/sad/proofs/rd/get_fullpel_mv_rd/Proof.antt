@@ -4,8 +4,8 @@ use mathlib.Core.Path.{_≡_, sym, ap, _∙_}
 use mathlib.Core.Bool.{true}
 use Prim.Native.Nat.{ℕ}
 use denote.Ref.{now}
+use Rattle.ground.proofs.TestLaws.{passed, failed}
 use Rattle.motion.specs.Range.{inRange}
-use Rattle.motion.proofs.TestLaws.{passed, failed}
 use Rattle.sad.specs.Cost.{rdOf}
 use Rattle.sad.proofs.CostLaws.{rd-in, rd-out, starts-inside, sad-from}
 use borrow.Author.Needs.{needs}

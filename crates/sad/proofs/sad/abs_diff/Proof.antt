@@ -12,8 +12,8 @@ use lib.Signed.{mag, ltZ, nonNeg}
 use mir.Syntax.{w8, w32}
 use mir.Val.{Fits, SFits, toZ, ofZ}
 use mir.ValLaws.{toZ-pos}
-use Rattle.motion.proofs.Bias.{bias, bias-minus, small-by, ltZ-bias, up-bias}
-use Rattle.motion.proofs.Words.{back}
+use Rattle.ground.proofs.Bias.{bias, bias-minus, small-by, ltZ-bias, up-bias}
+use Rattle.ground.proofs.Words.{back}
 use Rattle.sad.specs.Sad.{absDiff}
 use Rattle.sad.proofs.sad.abs_diff.Statement.{statement}
 use Rattle.sad.proofs.sad.abs_diff.Tie as tie

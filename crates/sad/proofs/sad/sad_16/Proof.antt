@@ -1,11 +1,13 @@
--- `sad::sad::sad_16` meets its contract: after k turns the sum is that of 4k rows, at most 255 for each sample.
+-- `sad::sad::sad_16` meets its contract: after k turns the sum is that of 4k rows, at most 65,535 for each sample.
 -- Assumes nothing.
 use mathlib.Core.Path.{_≡_}
 use Prim.Native.Nat.{_≤_, _+_, _*_, _-_}
 use native.Mathlib.Omega.{arith}
 use denote.Ref.{now}
 use lib.ListN.{length}
-use Rattle.sad.specs.Sad.{sadBlock, Inside}
+use Rattle.motion.specs.Limits.{largestSample}
+use Rattle.sad.specs.Sad.{sadBlock}
+use Rattle.sad.specs.Asked.{Inside}
 use Rattle.sad.proofs.Turns.{turn-inside, turn-more}
 use Rattle.sad.proofs.Sums.{Under, block-none, block-le}
 use Rattle.sad.proofs.sad.sad_16.Statement.{statement}
@@ -13,7 +15,7 @@ use Rattle.sad.proofs.sad.sad_16.Tie as tie
 
 abbrev Inv-loop : tie.InvT-loop
 Inv-loop plane-org src plane-ref dst stride fours sum₀ k₀ sum k =
-    (k ≤ fours) × (sum ≤ 255 * 16 * (4 * k)) × (sum ≡ sadBlock plane-org src plane-ref dst stride 16 (4 * k))
+    (k ≤ fours) × (sum ≤ largestSample * 16 * (4 * k)) × (sum ≡ sadBlock plane-org src plane-ref dst stride 16 (4 * k))
 
 abbrev μ-loop : tie.MeasureT-loop
 μ-loop plane-org src plane-ref dst stride fours sum₀ k₀ sum k = fours - k
@@ -50,17 +52,17 @@ add-sad-four-rows-2 c = omega (arith, ref-rows c 0 (omega arith))
 sad-four-rows-requires : tie.Need-sad-four-rows-requires Inv-loop μ-loop
 sad-four-rows-requires c κs = (org-rows c, ref-rows c)
 
--- four rows of 16 bytes
-rows-bound : (c : tie.After-sad-four-rows Inv-loop μ-loop) → c .sad-four-rows .result ≤ 255 * 16 * 4
+-- four rows of 16
+rows-bound : (c : tie.After-sad-four-rows Inv-loop μ-loop) → c .sad-four-rows .result ≤ largestSample * 16 * 4
 rows-bound c =
     let entry = c .before .before .before .before in
     let a = entry .before .args in
     let down = 4 * c .before .before .loop .k * a .stride in
     let cur = a .plane-org .now in
     let ref = a .plane-ref .now in
-    let known : Under 255 cur = λ i. omega (arith, entry .shared-slice-known .given i) in
-    let known2 : Under 255 ref = λ i. omega (arith, c .before .before .before .shared-slice-known2 .given i) in
-    omega (arith, c .sad-four-rows .ensures, block-le 255 cur ref known known2 (a .src + down) (a .dst + down) (a .stride) 16 4)
+    let known : Under largestSample cur = λ i. omega (arith, entry .shared-slice-known .given i) in
+    let known2 : Under largestSample ref = λ i. omega (arith, c .before .before .before .shared-slice-known2 .given i) in
+    omega (arith, c .sad-four-rows .ensures, block-le largestSample cur ref known known2 (a .src + down) (a .dst + down) (a .stride) 16 4)
 
 add-sum : tie.Need-add-sum Inv-loop μ-loop
 add-sum c = omega (arith, rows-bound c, c .before .before .before .before .before .pre .1)

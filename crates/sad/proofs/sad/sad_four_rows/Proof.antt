@@ -1,9 +1,10 @@
--- `sad::sad::sad_four_rows` meets its contract: four rows of 16 bytes sum to at most 255 a sample.
+-- `sad::sad::sad_four_rows` meets its contract: four rows of 16 sum to at most 65,535 a sample.
 -- Assumes nothing.
 use Prim.Native.Nat.{ℕ, _+_, _*_, _≤_, _<_, _^_}
 use native.Mathlib.Omega.{arith}
 use denote.Ref.{now}
 use lib.ListN.{length}
+use Rattle.motion.specs.Limits.{largestSample}
 use Rattle.sad.specs.Sad.{sadRow}
 use Rattle.sad.proofs.Turns.{four-rows}
 use Rattle.sad.proofs.Sums.{Under, row-le}
@@ -55,14 +56,14 @@ sad-row-requires-4 : tie.Need-sad-row-requires-4
 sad-row-requires-4 c κs = (omega (arith, org-row (c .before .before .before .before .before) 3 (omega arith)), omega (arith, ref-row (c .before .before .before .before .before) 3 (omega arith)), omega arith)
 
 -- a row of 16 bytes
-row-bound : (c : tie.After-sad-row4) (s d : ℕ) → sadRow (now (c .before .before .before .before .before .before .args .plane-org)) s (now (c .before .before .before .before .before .before .args .plane-ref)) d 16 ≤ 255 * 16
+row-bound : (c : tie.After-sad-row4) (s d : ℕ) → sadRow (now (c .before .before .before .before .before .before .args .plane-org)) s (now (c .before .before .before .before .before .before .args .plane-ref)) d 16 ≤ largestSample * 16
 row-bound c s d =
     let entry = c .before .before .before .before .before in
     let cur = now (entry .before .args .plane-org) in
     let ref = now (entry .before .args .plane-ref) in
-    let known : Under 255 cur = λ i. omega (arith, entry .shared-slice-known .given i) in
-    let known2 : Under 255 ref = λ i. omega (arith, c .before .before .before .before .shared-slice-known2 .given i) in
-    row-le 255 cur ref known known2 s d 16
+    let known : Under largestSample cur = λ i. omega (arith, entry .shared-slice-known .given i) in
+    let known2 : Under largestSample ref = λ i. omega (arith, c .before .before .before .before .shared-slice-known2 .given i) in
+    row-le largestSample cur ref known known2 s d 16
 
 -- all four of them, in u32
 fits : (c : tie.After-sad-row4) → c .before .before .before .sad-row .result + c .before .before .sad-row2 .result + c .before .sad-row3 .result + c .sad-row4 .result < 2 ^ 32

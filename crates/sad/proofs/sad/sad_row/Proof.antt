@@ -1,32 +1,33 @@
--- `sad::sad::sad_row` meets its contract: after x columns the sum is that of x columns, at most 255 for each.
+-- `sad::sad::sad_row` meets its contract: after x columns the sum is that of x columns, at most 65,535 for each.
 -- Assumes nothing.
 use borrow.Author.Needs.{needs}
 use mathlib.Core.Path.{_≡_}
 use Prim.Native.Nat.{_≤_, _+_, _*_, _-_}
 use native.Mathlib.Omega.{arith}
 use lib.ListN.{getD}
+use Rattle.motion.specs.Limits.{largestSample}
 use Rattle.sad.specs.Sad.{sadRow}
 use Rattle.sad.proofs.Sums.{row-none, row-more, diff-le}
 use Rattle.sad.proofs.sad.sad_row.Statement.{statement}
 use Rattle.sad.proofs.sad.sad_row.Tie as tie
 
 abbrev Inv-loop : tie.InvT-loop
-Inv-loop plane-org src plane-ref dst w sum₀ x₀ sum x = (x ≤ w) × (sum ≤ 255 * x) × (sum ≡ sadRow plane-org src plane-ref dst x)
+Inv-loop plane-org src plane-ref dst w sum₀ x₀ sum x = (x ≤ w) × (sum ≤ largestSample * x) × (sum ≡ sadRow plane-org src plane-ref dst x)
 
 abbrev μ-loop : tie.MeasureT-loop
 μ-loop plane-org src plane-ref dst w sum₀ x₀ sum x = w - x
 
--- two bytes differ by at most 255
-byte : (c : tie.After-abs-diff Inv-loop μ-loop) → c .abs-diff .result ≤ 255
+-- two samples differ by at most 65,535
+byte : (c : tie.After-abs-diff Inv-loop μ-loop) → c .abs-diff .result ≤ largestSample
 byte c =
     let entry = c .before .before .before .before .before .before in
     let a = entry .before .args in
     let x = c .before .before .before .before .loop .x in
     let org = getD (a .plane-org .now) (a .src + x) 0 in
     let ref = getD (a .plane-ref .now) (a .dst + x) 0 in
-    let low : org ≤ 255 = omega (arith, entry .shared-slice-known .given (a .src + x)) in
-    let high : ref ≤ 255 = omega (arith, c .before .before .before .before .before .shared-slice-known2 .given (a .dst + x)) in
-    omega (arith, c .abs-diff .ensures, diff-le org ref 255 low high)
+    let low : org ≤ largestSample = omega (arith, entry .shared-slice-known .given (a .src + x)) in
+    let high : ref ≤ largestSample = omega (arith, c .before .before .before .before .before .shared-slice-known2 .given (a .dst + x)) in
+    omega (arith, c .abs-diff .ensures, diff-le org ref largestSample low high)
 
 loop-holds : tie.Need-loop-holds Inv-loop μ-loop
 loop-holds c =

@@ -1,18 +1,20 @@
--- `sad::sad::sad_rows` meets its contract: after y rows the sum is that of y rows, at most 255 for each sample.
+-- `sad::sad::sad_rows` meets its contract: after y rows the sum is that of y rows, at most 65,535 for each sample.
 -- Assumes nothing.
 use mathlib.Core.Path.{_≡_}
 use Prim.Native.Nat.{_≤_, _+_, _*_, _-_}
 use native.Mathlib.Omega.{arith}
 use denote.Ref.{now}
 use lib.ListN.{length}
-use Rattle.sad.specs.Sad.{sadBlock, largestBlock}
+use Rattle.motion.specs.Limits.{largestSample}
+use Rattle.sad.specs.Sad.{sadBlock}
+use Rattle.sad.specs.Asked.{largestBlock}
 use Rattle.sad.proofs.Sums.{Under, block-none, block-more, row-le}
 use Rattle.sad.proofs.sad.sad_rows.Statement.{statement}
 use Rattle.sad.proofs.sad.sad_rows.Tie as tie
 
 abbrev Inv-loop : tie.InvT-loop
 Inv-loop plane-org src plane-ref dst stride w h sum₀ y₀ sum y =
-    (y ≤ h) × (sum ≤ 255 * largestBlock * y) × (sum ≡ sadBlock plane-org src plane-ref dst stride w y)
+    (y ≤ h) × (sum ≤ largestSample * largestBlock * y) × (sum ≡ sadBlock plane-org src plane-ref dst stride w y)
 
 abbrev μ-loop : tie.MeasureT-loop
 μ-loop plane-org src plane-ref dst stride w h sum₀ y₀ sum y = h - y
@@ -25,17 +27,17 @@ module _ (c : tie.In-loop Inv-loop μ-loop) where
   ref-row : c .before .before .before .before .args .dst + c .before .loop .y * c .before .before .before .before .args .stride + c .before .before .before .before .args .w ≤ length (now (c .before .before .before .before .args .plane-ref))
   ref-row = c .before .before .before .before .pre .0 .1 (c .before .loop .y) (omega arith)
 
--- a row of bytes sums to at most 255 a column
-row-bound : (c : tie.After-sad-row Inv-loop μ-loop) → c .sad-row .result ≤ 255 * largestBlock
+-- a row sums to at most 65,535 a column
+row-bound : (c : tie.After-sad-row Inv-loop μ-loop) → c .sad-row .result ≤ largestSample * largestBlock
 row-bound c =
     let entry = c .before .before .before .before in
     let a = entry .before .args in
     let down = c .before .before .loop .y * a .stride in
     let cur = a .plane-org .now in
     let ref = a .plane-ref .now in
-    let known : Under 255 cur = λ i. omega (arith, entry .shared-slice-known .given i) in
-    let known2 : Under 255 ref = λ i. omega (arith, c .before .before .before .shared-slice-known2 .given i) in
-    omega (arith, c .sad-row .ensures, row-le 255 cur ref known known2 (a .src + down) (a .dst + down) (a .w), entry .before .pre .1 .0)
+    let known : Under largestSample cur = λ i. omega (arith, entry .shared-slice-known .given i) in
+    let known2 : Under largestSample ref = λ i. omega (arith, c .before .before .before .shared-slice-known2 .given i) in
+    omega (arith, c .sad-row .ensures, row-le largestSample cur ref known known2 (a .src + down) (a .dst + down) (a .w), entry .before .pre .1 .0)
 
 loop-holds : tie.Need-loop-holds Inv-loop μ-loop
 loop-holds c =

@@ -1,8 +1,9 @@
--- `sad::sad::sad_two_rows` meets its contract: two rows of 32 bytes sum to at most 255 a sample.
+-- `sad::sad::sad_two_rows` meets its contract: two rows of 32 sum to at most 65,535 a sample.
 -- Assumes nothing.
 use Prim.Native.Nat.{_+_}
 use native.Mathlib.Omega.{arith}
 use denote.Ref.{now}
+use Rattle.motion.specs.Limits.{largestSample}
 use Rattle.sad.proofs.Turns.{two-rows}
 use Rattle.sad.proofs.Sums.{Under, row-le}
 use Rattle.sad.proofs.sad.sad_two_rows.Statement.{statement}
@@ -30,14 +31,14 @@ add-result c =
     let a = entry .before .args in
     let cur = now (a .plane-org) in
     let ref = now (a .plane-ref) in
-    let known : Under 255 cur = λ i. omega (arith, entry .shared-slice-known .given i) in
-    let known2 : Under 255 ref = λ i. omega (arith, c .before .before .shared-slice-known2 .given i) in
+    let known : Under largestSample cur = λ i. omega (arith, entry .shared-slice-known .given i) in
+    let known2 : Under largestSample ref = λ i. omega (arith, c .before .before .shared-slice-known2 .given i) in
     omega (
       arith,
       c .before .sad-row .ensures,
-      row-le 255 cur ref known known2 (a .src) (a .dst) 32,
+      row-le largestSample cur ref known known2 (a .src) (a .dst) 32,
       c .sad-row2 .ensures,
-      row-le 255 cur ref known known2 (a .src + a .stride) (a .dst + a .stride) 32,
+      row-le largestSample cur ref known known2 (a .src + a .stride) (a .dst + a .stride) 32,
     )
 
 returns : tie.Need-returns

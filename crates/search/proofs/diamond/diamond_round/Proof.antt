@@ -7,7 +7,8 @@ use denote.Ref.{now}
 use Rattle.motion.specs.declared.vector.MotionVector.{MotionVector}
 use Rattle.sad.specs.Cost.{rdAt}
 use Rattle.points.specs.declared.patterns.Pattern.the-variants.{Diamond}
-use Rattle.points.specs.Patterns.{Plain, points, pointOf}
+use Rattle.points.specs.Patterns.{points, pointOf}
+use Rattle.points.specs.Asked.{Plain}
 use Rattle.search.specs.declared.result.MotionSearchResult.{MotionSearchResult}
 use Rattle.search.specs.Result.{emptyResult, tryOne, tryPattern}
 use Rattle.search.specs.Diamond.{diamondBest}

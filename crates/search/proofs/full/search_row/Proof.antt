@@ -9,10 +9,11 @@ use denote.Ref.{now}
 use mir.Syntax.{w16}
 use mir.Val.{SFits, toZ, ofZ}
 use mir.ValLaws.{toZ-ofZ}
-use Rattle.motion.proofs.Words.{back}
+use Rattle.ground.proofs.Words.{back}
 use Rattle.motion.proofs.VectorLaws.{vector}
 use Rattle.sad.specs.Cost.{rdAt}
-use Rattle.points.specs.Window.{Spanned, spanAt}
+use Rattle.points.specs.Window.{spanAt}
+use Rattle.points.specs.Asked.{Spanned}
 use Rattle.search.specs.declared.result.MotionSearchResult.{MotionSearchResult}
 use Rattle.search.specs.Result.{tryOne, tryEach}
 use Rattle.search.specs.Full.{rowOf}

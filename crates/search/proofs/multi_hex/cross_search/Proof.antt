@@ -4,7 +4,7 @@ use mathlib.Core.Path.{ap, _∙_}
 use denote.Ref.{now}
 use Rattle.sad.specs.Cost.{rdAt}
 use Rattle.points.specs.declared.patterns.Pattern.the-variants.{ColLine}
-use Rattle.points.specs.Patterns.{Plain}
+use Rattle.points.specs.Asked.{Plain}
 use Rattle.search.specs.declared.result.MotionSearchResult.{MotionSearchResult}
 use Rattle.search.specs.Result.{tryPattern}
 use Rattle.search.specs.MultiHexagon.{cross}

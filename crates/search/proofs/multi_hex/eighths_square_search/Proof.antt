@@ -1,6 +1,6 @@
 -- `search::multi_hex::eighths_square_search` meets its contract.
 -- Assumes nothing.
-use Rattle.points.specs.Patterns.{Plain}
+use Rattle.points.specs.Asked.{Plain}
 use Rattle.search.specs.MultiHexagon.{eighthsSquare}
 use Rattle.search.proofs.multi_hex.eighths_square_search.Statement.{statement}
 use Rattle.search.proofs.multi_hex.eighths_square_search.Tie as tie

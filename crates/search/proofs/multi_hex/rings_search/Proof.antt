@@ -1,6 +1,6 @@
 -- `search::multi_hex::rings_search` meets its contract.
 -- Assumes nothing.
-use Rattle.points.specs.Patterns.{Plain}
+use Rattle.points.specs.Asked.{Plain}
 use Rattle.search.specs.MultiHexagon.{rings}
 use Rattle.search.proofs.multi_hex.rings_search.Statement.{statement}
 use Rattle.search.proofs.multi_hex.rings_search.Tie as tie

@@ -7,10 +7,11 @@ use native.Mathlib.Omega.{arith}
 use denote.Ref.{now}
 use mir.Syntax.{w16}
 use mir.Val.{SFits}
-use Rattle.motion.proofs.TestLaws.{passed, failed}
+use Rattle.ground.proofs.TestLaws.{passed, failed}
 use Rattle.sad.specs.Cost.{rdAt}
 use Rattle.points.specs.declared.window.Window.{Window}
-use Rattle.points.specs.Window.{Spanned, refineWindow, windowOk}
+use Rattle.points.specs.Window.{refineWindow, windowOk}
+use Rattle.points.specs.Asked.{Spanned}
 use Rattle.points.proofs.SpanLaws.{refine-spanned}
 use Rattle.search.specs.declared.result.MotionSearchResult.{MotionSearchResult}
 use Rattle.search.specs.Full.{fullSearch, refine}

@@ -4,12 +4,12 @@ use borrow.Author.Needs.{needs}
 use mathlib.Core.Path.{sym, ap, subst, _∙_}
 use lib.ListN.{length}
 use denote.Ref.{now}
+use Rattle.ground.proofs.TestLaws.{passed, failed}
 use Rattle.motion.specs.declared.block.Block.{Block}
 use Rattle.motion.specs.declared.vector.MotionVector.{MotionVector}
 use Rattle.motion.specs.Range.{inRange}
-use Rattle.motion.proofs.TestLaws.{passed, failed}
 use Rattle.sad.specs.declared.rd.MVCandidateRD.{MVCandidateRD}
-use Rattle.sad.specs.Plane.{Lies}
+use Rattle.sad.specs.Asked.{Lies}
 use Rattle.sad.specs.Cost.{rdAt}
 use Rattle.search.specs.declared.result.MotionSearchResult.{MotionSearchResult}
 use Rattle.single.specs.declared.found.Found.{Found}
@@ -20,7 +20,7 @@ use Rattle.searches.specs.Searches.{searchBy, searchRefusal, searchAnswe
 use Rattle.searches.proofs.searches.single_search.Statement.{statement}
 use Rattle.searches.proofs.searches.single_search.Tie as tie
 
--- the numbers 1 to 4 passed
+-- the refusals 1 to 4 passed
 ok : (c : tie.Else1) → Opened (c .before .before .before .before .args .width) (c .before .before .before .before .args .height) (c .before .before .before .before .args .level) 0 (c .before .before .before .before .args .bx) (c .before .before .before .before .args .by) (length (now (c .before .before .before .before .args .cur))) (length (now (c .before .before .before .before .args .reference)))
 ok c =
     let a = c .before .before .before .before .args in

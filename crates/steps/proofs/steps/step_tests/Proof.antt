@@ -6,10 +6,10 @@ use mathlib.Core.Path.{_≡_, sym, subst, _∙_}
 use mathlib.Core.Bool.{true, _&&_}
 use Prim.Native.Nat.{ℕ, _≤_, _<_}
 use lib.Dec.{ltb}
+use Rattle.ground.proofs.TestLaws.{passed, failed}
 use Rattle.motion.specs.Limits.{largestSide}
 use Rattle.motion.specs.Superblock.{superblocks}
-use Rattle.motion.proofs.TestLaws.{passed, failed}
-use Rattle.refusal.specs.Tests.{refuse, _then_, sideOk, levelOk}
+use Rattle.refusal.specs.Refusals.{refuse, _then_, sideOk, levelOk}
 use Rattle.refusal.proofs.RefusalLaws.{side-of, first-is}
 use Rattle.steps.specs.Steps.{stepTests}
 use Rattle.steps.proofs.steps.step_tests.Statement.{statement}

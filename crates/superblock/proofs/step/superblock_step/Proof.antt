@@ -4,7 +4,7 @@ use borrow.Author.Needs.{needs}
 use mathlib.Core.Path.{_≡_, sym, ap, subst, _∙_}
 use mathlib.Core.Bool.{true}
 use denote.Ref.{now}
-use Rattle.motion.proofs.TestLaws.{failed, passed}
+use Rattle.ground.proofs.TestLaws.{failed, passed}
 use Rattle.grid.specs.Grid.{Grid, Held, gridOf}
 use Rattle.grid.specs.Previous.{Previous, previousOf}
 use Rattle.estimate.specs.Inputs.{Inputs, inputsOf}

@@ -8,13 +8,13 @@ use Prim.Native.Nat.{ℕ, _-_, _≤_, _<_}
 use native.Mathlib.Omega.{arith}
 use lib.IntN.{ℤ}
 use denote.Ref.{now}
+use Rattle.ground.specs.Every.{allBelow}
+use Rattle.ground.proofs.EveryLaws.{below-none, below-more, below-fails}
+use Rattle.ground.proofs.TestLaws.{failed, passed}
 use Rattle.motion.specs.declared.level.Level.{Level}
 use Rattle.motion.specs.Limits.{largestSide, superblockSide}
 use Rattle.motion.specs.Frame.{Side}
 use Rattle.motion.specs.Level.{levelOf}
-use Rattle.motion.specs.Every.{allBelow}
-use Rattle.motion.proofs.EveryLaws.{below-none, below-more, below-fails}
-use Rattle.motion.proofs.TestLaws.{failed, passed}
 use Rattle.points.specs.Window.{windowOk}
 use Rattle.estimate.specs.Block.{windowAt}
 use Rattle.superblock.specs.Step.{blockX, blockY, refinedCount, windowsOk}

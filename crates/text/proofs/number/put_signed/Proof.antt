@@ -11,7 +11,7 @@ use lib.ListN.{length, length-set}
 use mir.Syntax.{w16}
 use mir.Val.{SFits}
 use mir.ValLaws.{toZ-ofZ}
-use Rattle.motion.proofs.Words.{lt-plain}
+use Rattle.ground.proofs.Words.{lt-plain}
 use Rattle.text.specs.Decimal.{decimal, signed}
 use Rattle.text.proofs.PutLaws.{behind}
 use Rattle.text.proofs.DecimalLaws.{minus, no-minus}

@@ -8,7 +8,7 @@ use native.Mathlib.Omega.{arith}
 use lib.ListN.{length, getD, set, take}
 use lib.Seq.{sets, length-sets, length-take-le, take-all, take-suc}
 use denote.Ref.{now}
-use Rattle.motion.proofs.ListLaws.{sets-append}
+use Rattle.ground.proofs.ListLaws.{sets-append}
 use Rattle.text.proofs.words.put_text.Statement.{statement}
 use Rattle.text.proofs.words.put_text.Tie as tie
 

@@ -7,8 +7,8 @@ use lib.IntN.{ℤ}
 use mir.Syntax.{w16}
 use mir.Val.{SFits, toZ, ofZ}
 use mir.ValLaws.{toZ-ofZ}
+use Rattle.ground.proofs.TestLaws.{passed, failed}
 use Rattle.motion.specs.Range.{within, inRange}
-use Rattle.motion.proofs.TestLaws.{passed, failed}
 use Rattle.motion.proofs.range.MvRange.holds.Statement.{statement}
 use Rattle.motion.proofs.range.MvRange.holds.Tie as tie
 

@@ -5,8 +5,8 @@ use mathlib.Core.Path.{ap, _∙_}
 use mir.Syntax.{w16}
 use mir.Val.{SFits}
 use mir.ValLaws.{toZ-ofZ}
+use Rattle.ground.proofs.Words.{back}
 use Rattle.motion.specs.Vector.{fullpel, fullpelV}
-use Rattle.motion.proofs.Words.{back}
 use Rattle.motion.proofs.vector.MotionVector.quantize_to_fullpel.Statement.{statement}
 use Rattle.motion.proofs.vector.MotionVector.quantize_to_fullpel.Tie as tie
 

@@ -3,8 +3,8 @@
 use borrow.Author.Needs.{needs}
 use mir.Syntax.{w16}
 use mir.Val.{SFits}
+use Rattle.ground.proofs.Words.{shl-word}
 use Rattle.motion.specs.Vector.{shlV}
-use Rattle.motion.proofs.Words.{shl-word}
 use Rattle.motion.proofs.vector.MotionVector.shl.Statement.{statement}
 use Rattle.motion.proofs.vector.MotionVector.shl.Tie as tie
 

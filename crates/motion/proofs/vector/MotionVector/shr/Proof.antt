@@ -6,8 +6,8 @@ use lib.Signed.{shrZ}
 use mir.Syntax.{w16}
 use mir.Val.{SFits}
 use mir.ValLaws.{toZ-ofZ}
+use Rattle.ground.proofs.Words.{shr-fits}
 use Rattle.motion.specs.Vector.{shrV}
-use Rattle.motion.proofs.Words.{shr-fits}
 use Rattle.motion.proofs.vector.MotionVector.shr.Statement.{statement}
 use Rattle.motion.proofs.vector.MotionVector.shr.Tie as tie
 

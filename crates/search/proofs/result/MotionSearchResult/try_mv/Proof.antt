@@ -6,8 +6,8 @@ use mathlib.Core.Bool.{true}
 use Prim.Native.Nat.{ℕ}
 use native.Mathlib.Omega.{arith}
 use denote.Ref.{now}
+use Rattle.ground.proofs.TestLaws.{passed, failed}
 use Rattle.motion.specs.Range.{inRange}
-use Rattle.motion.proofs.TestLaws.{passed, failed}
 use Rattle.sad.specs.declared.rd.MVCandidateRD.{MVCandidateRD}
 use Rattle.sad.specs.Cost.{rdOf, rdAt}
 use Rattle.sad.proofs.CostLaws.{rd-in, rd-out, starts-inside, sad-from}

@@ -1,0 +1,74 @@
+use crate::read::Shape;
+use crate::read::cells_refusal;
+use crate::read::get_cells;
+use crate::read::header_refusal;
+use crate::write::Written;
+use crate::write::put_cells;
+use crate::write::write_refusal;
+use grid::cells::room;
+use records::parts::put_header;
+ghost use mathlib.Core.Path.{_≡_};
+ghost use Rattle.grid.specs.Grid.{gridOf};
+ghost use Rattle.gridfile.specs.Writing.{writeAnswer, writtenFile};
+ghost use Rattle.gridfile.specs.Reading.{readAnswer, readGrid};
+
+#[no_mangle]
+pub extern "C" fn lockdapple_grid_write(
+    width: usize,
+    height: usize,
+    rows: &[i16],
+    cols: &[i16],
+    sads: &[u32],
+    file: &mut [u8],
+) -> Written
+    ensures { λ r. ⌜ r ≡ writeAnswer width height (gridOf (now (rows .entry)) (now (cols .entry)) (now (sads .entry))) (now (file .entry)) ⌝ }
+    ensures { λ r. ⌜ now (file .exit) ≡ writtenFile width height (gridOf (now (rows .entry)) (now (cols .entry)) (now (sads .entry))) (now (file .entry)) ⌝ }
+{
+    let code = write_refusal(width, height, rows, cols, sads, &*file);
+    if code != 0 {
+        return Written { code, bytes: 0 };
+    }
+    let count = (width / 4) * (height / 4);
+    put_header(width / 4, height / 4, file);
+    put_cells(count, rows, cols, sads, file);
+    Written {
+        code: 0,
+        bytes: (4 + 10 * count) as u64,
+    }
+}
+
+#[no_mangle]
+pub extern "C" fn lockdapple_grid_read(
+    file: &[u8],
+    rows: &mut [i16],
+    cols: &mut [i16],
+    sads: &mut [u32],
+) -> Shape
+    ensures { λ r. ⌜ r ≡ readAnswer (now (file .entry)) (gridOf (now (rows .entry)) (now (cols .entry)) (now (sads .entry))) ⌝ }
+    ensures { λ r. ⌜ gridOf (now (rows .exit)) (now (cols .exit)) (now (sads .exit)) ≡ readGrid (now (file .entry)) (gridOf (now (rows .entry)) (now (cols .entry)) (now (sads .entry))) ⌝ }
+{
+    let code = header_refusal(file, room(rows.len(), cols.len(), sads.len()));
+    if code != 0 {
+        return Shape {
+            code,
+            columns: 0,
+            rows: 0,
+        };
+    }
+    let columns = file[2] as usize + 1;
+    let down = file[3] as usize + 1;
+    let number = cells_refusal(file, columns, down);
+    if number != 0 {
+        return Shape {
+            code: number,
+            columns: 0,
+            rows: 0,
+        };
+    }
+    get_cells(file, columns, down, rows, cols, sads);
+    Shape {
+        code: 0,
+        columns: columns as u32,
+        rows: down as u32,
+    }
+}

@@ -1,0 +1,2 @@
+-- What a reader must believe of tests of many numbers.
+pub mod Every

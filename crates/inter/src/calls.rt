@@ -1,0 +1,76 @@
+use crate::runs::run_tests;
+use frame::run::frame_run;
+use motion::superblock::superblocks_along;
+use order::list::list_refusal;
+ghost use mathlib.Core.Path.{_≡_};
+ghost use Rattle.grid.specs.Grid.{gridOf};
+ghost use Rattle.estimate.specs.Inputs.{planesOf};
+ghost use Rattle.inter.specs.Runs.{runRefusal, runGrid};
+
+#[no_mangle]
+pub extern "C" fn lockdapple_frame_run(
+    width: usize,
+    height: usize,
+    cur: &[u8],
+    cur_half: &[u8],
+    cur_quarter: &[u8],
+    reference: &[u8],
+    ref_half: &[u8],
+    ref_quarter: &[u8],
+    present: usize,
+    prev_rows: &[i16],
+    prev_cols: &[i16],
+    prev_sads: &[u32],
+    list: &[u16],
+    rows: &mut [i16],
+    cols: &mut [i16],
+    sads: &mut [u32],
+) -> u32
+    ensures { λ r. ⌜ r ≡ runRefusal width height (planesOf (now (cur .entry)) (now («cur_half» .entry)) (now («cur_quarter» .entry))) (planesOf (now (reference .entry)) (now («ref_half» .entry)) (now («ref_quarter» .entry))) present (gridOf (now («prev_rows» .entry)) (now («prev_cols» .entry)) (now («prev_sads» .entry))) (now (list .entry)) (gridOf (now (rows .entry)) (now (cols .entry)) (now (sads .entry))) ⌝ }
+    ensures { λ r. ⌜ gridOf (now (rows .exit)) (now (cols .exit)) (now (sads .exit)) ≡ runGrid width height (planesOf (now (cur .entry)) (now («cur_half» .entry)) (now («cur_quarter» .entry))) (planesOf (now (reference .entry)) (now («ref_half» .entry)) (now («ref_quarter» .entry))) present (gridOf (now («prev_rows» .entry)) (now («prev_cols» .entry)) (now («prev_sads» .entry))) 0 (now (list .entry)) (gridOf (now (rows .entry)) (now (cols .entry)) (now (sads .entry))) ⌝ }
+{
+    let code = run_tests(
+        width,
+        height,
+        cur,
+        cur_half,
+        cur_quarter,
+        reference,
+        ref_half,
+        ref_quarter,
+        present,
+        prev_rows,
+        prev_cols,
+        prev_sads,
+        &*rows,
+        &*cols,
+        &*sads,
+    );
+    if code != 0 {
+        return code;
+    }
+    let number = list_refusal(superblocks_along(width), superblocks_along(height), list);
+    if number != 0 {
+        return number;
+    }
+    frame_run(
+        width,
+        height,
+        cur,
+        cur_half,
+        cur_quarter,
+        reference,
+        ref_half,
+        ref_quarter,
+        0,
+        present != 0,
+        prev_rows,
+        prev_cols,
+        prev_sads,
+        list,
+        rows,
+        cols,
+        sads,
+    );
+    0
+}

@@ -1,0 +1,71 @@
+use crate::steps::plane_at;
+use crate::steps::step_tests;
+use superblock::step::superblock_step;
+ghost use mathlib.Core.Path.{_≡_};
+ghost use Rattle.grid.specs.Grid.{gridOf};
+ghost use Rattle.estimate.specs.Inputs.{planesOf, planeAt};
+ghost use Rattle.steps.specs.Steps.{stepRefusal, stepGrid};
+
+#[no_mangle]
+pub extern "C" fn lockdapple_superblock_step<'a>(
+    width: usize,
+    height: usize,
+    level: usize,
+    superblock: usize,
+    cur: &'a [u8],
+    cur_half: &'a [u8],
+    cur_quarter: &'a [u8],
+    reference: &'a [u8],
+    ref_half: &'a [u8],
+    ref_quarter: &'a [u8],
+    present: usize,
+    prev_rows: &[i16],
+    prev_cols: &[i16],
+    prev_sads: &[u32],
+    rows: &mut [i16],
+    cols: &mut [i16],
+    sads: &mut [u32],
+) -> u32
+    ensures { λ r. ⌜ r ≡ stepRefusal width height level superblock (planeAt (planesOf (now (cur .entry)) (now («cur_half» .entry)) (now («cur_quarter» .entry))) level) (planeAt (planesOf (now (reference .entry)) (now («ref_half» .entry)) (now («ref_quarter» .entry))) level) present (gridOf (now («prev_rows» .entry)) (now («prev_cols» .entry)) (now («prev_sads» .entry))) (gridOf (now (rows .entry)) (now (cols .entry)) (now (sads .entry))) ⌝ }
+    ensures { λ r. ⌜ gridOf (now (rows .exit)) (now (cols .exit)) (now (sads .exit)) ≡ stepGrid width height level superblock (planeAt (planesOf (now (cur .entry)) (now («cur_half» .entry)) (now («cur_quarter» .entry))) level) (planeAt (planesOf (now (reference .entry)) (now («ref_half» .entry)) (now («ref_quarter» .entry))) level) present (gridOf (now («prev_rows» .entry)) (now («prev_cols» .entry)) (now («prev_sads» .entry))) 0 (gridOf (now (rows .entry)) (now (cols .entry)) (now (sads .entry))) ⌝ }
+{
+    let org = plane_at(level, cur, cur_half, cur_quarter);
+    let rec = plane_at(level, reference, ref_half, ref_quarter);
+    let code = step_tests(
+        width,
+        height,
+        level,
+        superblock,
+        org,
+        rec,
+        present,
+        prev_rows,
+        prev_cols,
+        prev_sads,
+        &*rows,
+        &*cols,
+        &*sads,
+    );
+    if code != 0 {
+        return code;
+    }
+    if !superblock_step(
+        width,
+        height,
+        level,
+        superblock,
+        org,
+        rec,
+        0,
+        present != 0,
+        prev_rows,
+        prev_cols,
+        prev_sads,
+        rows,
+        cols,
+        sads,
+    ) {
+        return 8;
+    }
+    0
+}
