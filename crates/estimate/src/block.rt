@@ -38,13 +38,13 @@ fn try_unless_best(
     b: Block,
     cur: &[u8],
     reference: &[u8],
-    lambda: u32,
+    weight: u32,
     best: MotionSearchResult,
     mv: MotionVector,
 ) -> MotionSearchResult
     requires { ⌜ Lies b (length (now cur)) × Lies b (length (now reference)) ⌝ }
-    requires { ⌜ Honest (rdAt b (now cur) (now reference) lambda) best ⌝ }
-    ensures { λ r. ⌜ r ≡ tryOne (rdAt b (now (cur .entry)) (now (reference .entry)) lambda) best mv ⌝ }
+    requires { ⌜ Honest (rdAt b (now cur) (now reference) weight) best ⌝ }
+    ensures { λ r. ⌜ r ≡ tryOne (rdAt b (now (cur .entry)) (now (reference .entry)) weight) best mv ⌝ }
 {
     if best.mv.row == mv.row {
         if best.mv.col == mv.col {
@@ -53,7 +53,7 @@ fn try_unless_best(
             }
         }
     }
-    best.try_mv(b, cur, reference, lambda, mv)
+    best.try_mv(b, cur, reference, weight, mv)
 }
 
 // Tries the vectors of a list, in turn.
@@ -61,19 +61,19 @@ fn try_mvs(
     b: Block,
     cur: &[u8],
     reference: &[u8],
-    lambda: u32,
+    weight: u32,
     current: MotionSearchResult,
     mvs: [MotionVector; 5],
     count: usize,
 ) -> MotionSearchResult
     requires { ⌜ Lies b (length (now cur)) × Lies b (length (now reference)) ⌝ }
-    requires { ⌜ (count ≤ slots) × (length mvs ≡ slots) × Honest (rdAt b (now cur) (now reference) lambda) current ⌝ }
-    ensures { λ r. ⌜ r ≡ tryMvs (rdAt b (now (cur .entry)) (now (reference .entry)) lambda) current mvs count ⌝ }
+    requires { ⌜ (count ≤ slots) × (length mvs ≡ slots) × Honest (rdAt b (now cur) (now reference) weight) current ⌝ }
+    ensures { λ r. ⌜ r ≡ tryMvs (rdAt b (now (cur .entry)) (now (reference .entry)) weight) current mvs count ⌝ }
 {
     let mut best = current;
     let mut k = 0;
     while k < count {
-        best = try_unless_best(b, cur, reference, lambda, best, mvs[k]);
+        best = try_unless_best(b, cur, reference, weight, best, mvs[k]);
         k += 1;
     }
     best
@@ -84,17 +84,17 @@ fn try_cands(
     b: Block,
     cur: &[u8],
     reference: &[u8],
-    lambda: u32,
+    weight: u32,
     mvs: [MotionVector; 5],
     count: usize,
 ) -> MotionSearchResult
     requires { ⌜ Lies b (length (now cur)) × Lies b (length (now reference)) ⌝ }
     requires { ⌜ (count ≤ slots) × (length mvs ≡ slots) × (inRange (b .range) zeroV ≡ true) ⌝ }
-    ensures { λ r. ⌜ r ≡ tryCands (rdAt b (now (cur .entry)) (now (reference .entry)) lambda) mvs count ⌝ }
+    ensures { λ r. ⌜ r ≡ tryCands (rdAt b (now (cur .entry)) (now (reference .entry)) weight) mvs count ⌝ }
 {
     let empty = MotionSearchResult::empty();
-    let best = try_mvs(b, cur, reference, lambda, empty, mvs, count);
-    fullpel_diamond_search(b, cur, reference, lambda, best)
+    let best = try_mvs(b, cur, reference, weight, empty, mvs, count);
+    fullpel_diamond_search(b, cur, reference, weight, best)
 }
 
 // Levels 3 and 2: the cheapest predictor, and diamond.
@@ -102,20 +102,20 @@ fn short_search(
     b: Block,
     cur: &[u8],
     reference: &[u8],
-    lambda: u32,
+    weight: u32,
     p: MotionEstimationSubsets,
 ) -> MotionSearchResult
     requires { ⌜ Lies b (length (now cur)) × Lies b (length (now reference)) ⌝ }
     requires { ⌜ Listed p × (inRange (b .range) zeroV ≡ true) ⌝ }
-    ensures { λ r. ⌜ r ≡ shortSearch (rdAt b (now (cur .entry)) (now (reference .entry)) lambda) p ⌝ }
+    ensures { λ r. ⌜ r ≡ shortSearch (rdAt b (now (cur .entry)) (now (reference .entry)) weight) p ⌝ }
 {
     let empty = MotionSearchResult::empty();
     let subset_b = p.subset_b;
     let subset_c = p.subset_c;
-    let middle = empty.try_mv(b, cur, reference, lambda, p.center);
-    let near = try_mvs(b, cur, reference, lambda, middle, subset_b, p.b_count);
-    let best = try_mvs(b, cur, reference, lambda, near, subset_c, p.c_count);
-    fullpel_diamond_search(b, cur, reference, lambda, best)
+    let middle = empty.try_mv(b, cur, reference, weight, p.center);
+    let near = try_mvs(b, cur, reference, weight, middle, subset_b, p.b_count);
+    let best = try_mvs(b, cur, reference, weight, near, subset_c, p.c_count);
+    fullpel_diamond_search(b, cur, reference, weight, best)
 }
 
 // Level 4: stops below the threshold.
@@ -123,43 +123,43 @@ fn extensive_search(
     b: Block,
     cur: &[u8],
     reference: &[u8],
-    lambda: u32,
+    weight: u32,
     p: MotionEstimationSubsets,
 ) -> MotionSearchResult
     requires { ⌜ Lies b (length (now cur)) × Lies b (length (now reference)) ⌝ }
     requires { ⌜ Listed p × (inRange (b .range) zeroV ≡ true) ⌝ }
-    ensures { λ r. ⌜ r ≡ extensiveSearch (rdAt b (now (cur .entry)) (now (reference .entry)) lambda) p ⌝ }
+    ensures { λ r. ⌜ r ≡ extensiveSearch (rdAt b (now (cur .entry)) (now (reference .entry)) weight) p ⌝ }
 {
     let subset_b = p.subset_b;
     let subset_c = p.subset_c;
-    let near = try_cands(b, cur, reference, lambda, subset_b, p.b_count);
+    let near = try_cands(b, cur, reference, weight, subset_b, p.b_count);
     if near.rd.sad < p.threshold {
         return near;
     }
-    let before = try_cands(b, cur, reference, lambda, subset_c, p.c_count);
+    let before = try_cands(b, cur, reference, weight, subset_c, p.c_count);
     let best = near.or_cheaper(before);
     if best.rd.sad < p.threshold {
         return best;
     }
-    uneven_multi_hex_search(b, cur, reference, lambda, best)
+    uneven_multi_hex_search(b, cur, reference, weight, best)
 }
 
 fn full_pixel_me(
     b: Block,
     cur: &[u8],
     reference: &[u8],
-    lambda: u32,
+    weight: u32,
     level: usize,
     p: MotionEstimationSubsets,
 ) -> MotionSearchResult
     requires { ⌜ Lies b (length (now cur)) × Lies b (length (now reference)) ⌝ }
     requires { ⌜ Listed p × (inRange (b .range) zeroV ≡ true) ⌝ }
-    ensures { λ r. ⌜ r ≡ fullPixelMe (rdAt b (now (cur .entry)) (now (reference .entry)) lambda) level p ⌝ }
+    ensures { λ r. ⌜ r ≡ fullPixelMe (rdAt b (now (cur .entry)) (now (reference .entry)) weight) level p ⌝ }
 {
     if level == 4 {
-        return extensive_search(b, cur, reference, lambda, p);
+        return extensive_search(b, cur, reference, weight, p);
     }
-    short_search(b, cur, reference, lambda, p)
+    short_search(b, cur, reference, weight, p)
 }
 
 // What is saved of a result: its vector at full size, its SAD as that of a block of 128 by 128.
@@ -185,7 +185,7 @@ pub fn estimate_motion(
     by: usize,
     cur: &[u8],
     reference: &[u8],
-    lambda: u32,
+    weight: u32,
     present: bool,
     prev_rows: &[i16],
     prev_cols: &[i16],
@@ -194,11 +194,11 @@ pub fn estimate_motion(
     cols: &[i16],
     sads: &[u32],
 ) -> MEStats
-    requires { ⌜ Ready (inputsOf width height level (now cur) (now reference) lambda) ⌝ }
+    requires { ⌜ Ready (inputsOf width height level (now cur) (now reference) weight) ⌝ }
     requires { ⌜ HeldIf width height (previousOf present (gridOf (now «prev_rows») (now «prev_cols») (now «prev_sads»))) ⌝ }
     requires { ⌜ Starts width (levelOf level .«mv_size») bx × Starts height (levelOf level .«mv_size») by ⌝ }
     requires { ⌜ Held width height (gridOf (now rows) (now cols) (now sads)) ⌝ }
-    ensures { λ r. ⌜ r ≡ estimateMotion (inputsOf width height level (now (cur .entry)) (now (reference .entry)) lambda) (previousOf present (gridOf (now («prev_rows» .entry)) (now («prev_cols» .entry)) (now («prev_sads» .entry)))) bx by (gridOf (now (rows .entry)) (now (cols .entry)) (now (sads .entry))) ⌝ }
+    ensures { λ r. ⌜ r ≡ estimateMotion (inputsOf width height level (now (cur .entry)) (now (reference .entry)) weight) (previousOf present (gridOf (now («prev_rows» .entry)) (now («prev_cols» .entry)) (now («prev_sads» .entry)))) bx by (gridOf (now (rows .entry)) (now (cols .entry)) (now (sads .entry))) ⌝ }
 {
     let row = level_of(level);
     let b = block_of(width, height, row, row.mv_size, bx, by);
@@ -216,7 +216,7 @@ pub fn estimate_motion(
         cols,
         sads,
     );
-    let best = full_pixel_me(b, cur, reference, lambda, level, p);
+    let best = full_pixel_me(b, cur, reference, weight, level, p);
     stats_of(row.ssdec, b.w, b.h, best)
 }
 
@@ -259,20 +259,20 @@ pub fn refine_motion(
     by: usize,
     cur: &[u8],
     reference: &[u8],
-    lambda: u32,
+    weight: u32,
     rows: &[i16],
     cols: &[i16],
 ) -> MEStats
-    requires { ⌜ Ready (inputsOf width height level (now cur) (now reference) lambda) ⌝ }
+    requires { ⌜ Ready (inputsOf width height level (now cur) (now reference) weight) ⌝ }
     requires { ⌜ Starts width (levelOf level .refined) bx × Starts height (levelOf level .refined) by ⌝ }
     requires { ⌜ (cells width height ≤ length (now rows)) × (cells width height ≤ length (now cols)) ⌝ }
     requires { ⌜ windowOk (windowAt width height level bx by (now rows) (now cols)) ≡ true ⌝ }
-    ensures { λ r. ⌜ r ≡ refineMotion (inputsOf width height level (now (cur .entry)) (now (reference .entry)) lambda) bx by (now (rows .entry)) (now (cols .entry)) ⌝ }
+    ensures { λ r. ⌜ r ≡ refineMotion (inputsOf width height level (now (cur .entry)) (now (reference .entry)) weight) bx by (now (rows .entry)) (now (cols .entry)) ⌝ }
 {
     let row = level_of(level);
     let b = block_of(width, height, row, row.refined, bx, by);
     let stored = first_stored(width, bx, by, rows, cols);
     let window = refine_window(b.range, stored, row.ssdec);
-    let best = full_search(b, cur, reference, lambda, window);
+    let best = full_search(b, cur, reference, weight, window);
     stats_of(row.ssdec, b.w, b.h, best)
 }

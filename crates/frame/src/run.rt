@@ -17,7 +17,7 @@ fn level_run(
     level: usize,
     cur: &[u8],
     reference: &[u8],
-    lambda: u32,
+    weight: u32,
     present: bool,
     prev_rows: &[i16],
     prev_cols: &[i16],
@@ -27,11 +27,11 @@ fn level_run(
     cols: &mut [i16],
     sads: &mut [u32],
 )
-    requires { ⌜ Ready (inputsOf width height level (now cur) (now reference) lambda) ⌝ }
+    requires { ⌜ Ready (inputsOf width height level (now cur) (now reference) weight) ⌝ }
     requires { ⌜ HeldIf width height (previousOf present (gridOf (now «prev_rows») (now «prev_cols») (now «prev_sads»))) ⌝ }
     requires { ⌜ Held width height (gridOf (now rows) (now cols) (now sads)) ⌝ }
     requires { ⌜ ((k : ℕ) → k < length (now list) → getD (now list) k 0 < superblocks width height) ⌝ }
-    ensures { λ r. ⌜ gridOf (now (rows .exit)) (now (cols .exit)) (now (sads .exit)) ≡ levelRun (inputsOf width height level (now (cur .entry)) (now (reference .entry)) lambda) (previousOf present (gridOf (now («prev_rows» .entry)) (now («prev_cols» .entry)) (now («prev_sads» .entry)))) (now (list .entry)) (gridOf (now (rows .entry)) (now (cols .entry)) (now (sads .entry))) ⌝ }
+    ensures { λ r. ⌜ gridOf (now (rows .exit)) (now (cols .exit)) (now (sads .exit)) ≡ levelRun (inputsOf width height level (now (cur .entry)) (now (reference .entry)) weight) (previousOf present (gridOf (now («prev_rows» .entry)) (now («prev_cols» .entry)) (now («prev_sads» .entry)))) (now (list .entry)) (gridOf (now (rows .entry)) (now (cols .entry)) (now (sads .entry))) ⌝ }
 {
     let mut k = 0;
     while k < list.len() {
@@ -43,7 +43,7 @@ fn level_run(
             superblock,
             cur,
             reference,
-            lambda,
+            weight,
             present,
             prev_rows,
             prev_cols,
@@ -66,7 +66,7 @@ pub fn frame_run(
     reference: &[u8],
     ref_half: &[u8],
     ref_quarter: &[u8],
-    lambda: u32,
+    weight: u32,
     present: bool,
     prev_rows: &[i16],
     prev_cols: &[i16],
@@ -81,7 +81,7 @@ pub fn frame_run(
     requires { ⌜ HeldIf width height (previousOf present (gridOf (now «prev_rows») (now «prev_cols») (now «prev_sads»))) ⌝ }
     requires { ⌜ Held width height (gridOf (now rows) (now cols) (now sads)) ⌝ }
     requires { ⌜ ((k : ℕ) → k < length (now list) → getD (now list) k 0 < superblocks width height) ⌝ }
-    ensures { λ r. ⌜ gridOf (now (rows .exit)) (now (cols .exit)) (now (sads .exit)) ≡ frameRun width height (planesOf (now (cur .entry)) (now («cur_half» .entry)) (now («cur_quarter» .entry))) (planesOf (now (reference .entry)) (now («ref_half» .entry)) (now («ref_quarter» .entry))) lambda (previousOf present (gridOf (now («prev_rows» .entry)) (now («prev_cols» .entry)) (now («prev_sads» .entry)))) (now (list .entry)) (gridOf (now (rows .entry)) (now (cols .entry)) (now (sads .entry))) ⌝ }
+    ensures { λ r. ⌜ gridOf (now (rows .exit)) (now (cols .exit)) (now (sads .exit)) ≡ frameRun width height (planesOf (now (cur .entry)) (now («cur_half» .entry)) (now («cur_quarter» .entry))) (planesOf (now (reference .entry)) (now («ref_half» .entry)) (now («ref_quarter» .entry))) weight (previousOf present (gridOf (now («prev_rows» .entry)) (now («prev_cols» .entry)) (now («prev_sads» .entry)))) (now (list .entry)) (gridOf (now (rows .entry)) (now (cols .entry)) (now (sads .entry))) ⌝ }
 {
     level_run(
         width,
@@ -89,7 +89,7 @@ pub fn frame_run(
         4,
         cur_quarter,
         ref_quarter,
-        lambda,
+        weight,
         present,
         prev_rows,
         prev_cols,
@@ -105,7 +105,7 @@ pub fn frame_run(
         3,
         cur_half,
         ref_half,
-        lambda,
+        weight,
         present,
         prev_rows,
         prev_cols,
@@ -121,7 +121,7 @@ pub fn frame_run(
         2,
         cur,
         reference,
-        lambda,
+        weight,
         present,
         prev_rows,
         prev_cols,

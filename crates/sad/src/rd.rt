@@ -27,11 +27,11 @@ impl MVCandidateRD {
     }
 }
 
-pub fn compute_mv_rd(lambda: u32, sad: u32, cand_mv: MotionVector) -> MVCandidateRD
-    ensures { λ r. ⌜ r ≡ rdOf lambda sad «cand_mv» ⌝ }
+pub fn compute_mv_rd(weight: u32, sad: u32, cand_mv: MotionVector) -> MVCandidateRD
+    ensures { λ r. ⌜ r ≡ rdOf weight sad «cand_mv» ⌝ }
 {
     // At weight 0, that of a run, the rate counts for nothing.
-    if lambda == 0 {
+    if weight == 0 {
         return MVCandidateRD {
             cost: 256 * sad as u64,
             sad,
@@ -39,7 +39,7 @@ pub fn compute_mv_rd(lambda: u32, sad: u32, cand_mv: MotionVector) -> MVCandidat
     }
     let rate = get_mv_rate(cand_mv);
     MVCandidateRD {
-        cost: 256 * sad as u64 + rate as u64 * lambda as u64,
+        cost: 256 * sad as u64 + rate as u64 * weight as u64,
         sad,
     }
 }
@@ -47,19 +47,19 @@ pub fn compute_mv_rd(lambda: u32, sad: u32, cand_mv: MotionVector) -> MVCandidat
 // The cost of moving a block by a vector, in range or not.
 pub fn get_fullpel_mv_rd(
     b: Block,
-    plane_org: &[u8],
-    plane_ref: &[u8],
-    lambda: u32,
+    cur: &[u8],
+    reference: &[u8],
+    weight: u32,
     cand_mv: MotionVector,
 ) -> MVCandidateRD
-    requires { ⌜ Lies b (length (now «plane_org»)) × Lies b (length (now «plane_ref»)) ⌝ }
-    ensures { λ r. ⌜ r ≡ rdAt b (now («plane_org» .entry)) (now («plane_ref» .entry)) lambda «cand_mv» ⌝ }
+    requires { ⌜ Lies b (length (now cur)) × Lies b (length (now reference)) ⌝ }
+    ensures { λ r. ⌜ r ≡ rdAt b (now (cur .entry)) (now (reference .entry)) weight «cand_mv» ⌝ }
 {
     if !b.range.holds(cand_mv) {
         return MVCandidateRD::empty();
     }
     let src = org_start(b);
     let dst = ref_start(b, cand_mv);
-    let sad = get_sad(plane_org, src, plane_ref, dst, b.stride, b.w, b.h);
-    compute_mv_rd(lambda, sad, cand_mv)
+    let sad = get_sad(cur, src, reference, dst, b.stride, b.w, b.h);
+    compute_mv_rd(weight, sad, cand_mv)
 }

@@ -16,15 +16,15 @@ ghost use Rattle.search.specs.Diamond.{diamondBest, diamond};
 // The cheapest of the four points round a centre.
 fn diamond_round(
     b: Block,
-    plane_org: &[u8],
-    plane_ref: &[u8],
-    lambda: u32,
+    cur: &[u8],
+    reference: &[u8],
+    weight: u32,
     center: MotionVector,
     radius_log2: u32,
 ) -> MotionSearchResult
-    requires { ⌜ Lies b (length (now «plane_org»)) × Lies b (length (now «plane_ref»)) ⌝ }
+    requires { ⌜ Lies b (length (now cur)) × Lies b (length (now reference)) ⌝ }
     requires { ⌜ («radius_log2» ≤ 1) × Near center ⌝ }
-    ensures { λ r. ⌜ r ≡ diamondBest (rdAt b (now («plane_org» .entry)) (now («plane_ref» .entry)) lambda) «radius_log2» center ⌝ }
+    ensures { λ r. ⌜ r ≡ diamondBest (rdAt b (now (cur .entry)) (now (reference .entry)) weight) «radius_log2» center ⌝ }
 {
     let pattern = Pattern::Diamond(radius_log2);
     let down = pattern_point(pattern, center, 0);
@@ -32,35 +32,28 @@ fn diamond_round(
     let up = pattern_point(pattern, center, 2);
     let left = pattern_point(pattern, center, 3);
     let empty = MotionSearchResult::empty();
-    let first = empty.try_mv(b, plane_org, plane_ref, lambda, down);
-    let second = first.try_mv(b, plane_org, plane_ref, lambda, right);
-    let third = second.try_mv(b, plane_org, plane_ref, lambda, up);
-    third.try_mv(b, plane_org, plane_ref, lambda, left)
+    let first = empty.try_mv(b, cur, reference, weight, down);
+    let second = first.try_mv(b, cur, reference, weight, right);
+    let third = second.try_mv(b, cur, reference, weight, up);
+    third.try_mv(b, cur, reference, weight, left)
 }
 
 // Moves by the diamond, first of radius 2 pixels, then of 1, until it finds no cheaper point.
 pub fn fullpel_diamond_search(
     b: Block,
-    plane_org: &[u8],
-    plane_ref: &[u8],
-    lambda: u32,
+    cur: &[u8],
+    reference: &[u8],
+    weight: u32,
     start: MotionSearchResult,
 ) -> MotionSearchResult
-    requires { ⌜ Lies b (length (now «plane_org»)) × Lies b (length (now «plane_ref»)) ⌝ }
+    requires { ⌜ Lies b (length (now cur)) × Lies b (length (now reference)) ⌝ }
     requires { ⌜ inRange (b .range) (start .mv) ≡ true ⌝ }
-    ensures { λ r. ⌜ r ≡ diamond (rdAt b (now («plane_org» .entry)) (now («plane_ref» .entry)) lambda) start ⌝ }
+    ensures { λ r. ⌜ r ≡ diamond (rdAt b (now (cur .entry)) (now (reference .entry)) weight) start ⌝ }
 {
     let mut current = start;
     let mut diamond_radius_log2: u32 = 1;
     loop {
-        let best_cand = diamond_round(
-            b,
-            plane_org,
-            plane_ref,
-            lambda,
-            current.mv,
-            diamond_radius_log2,
-        );
+        let best_cand = diamond_round(b, cur, reference, weight, current.mv, diamond_radius_log2);
         if best_cand.rd.cost < current.rd.cost {
             current = best_cand;
         } else {

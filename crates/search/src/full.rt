@@ -15,16 +15,16 @@ ghost use Rattle.search.specs.Full.{rowOf, fullSearch};
 // One row of a window.
 fn search_row(
     b: Block,
-    plane_org: &[u8],
-    plane_ref: &[u8],
-    lambda: u32,
+    cur: &[u8],
+    reference: &[u8],
+    weight: u32,
     row: i16,
     cols: Span,
     current: MotionSearchResult,
 ) -> MotionSearchResult
-    requires { ⌜ Lies b (length (now «plane_org»)) × Lies b (length (now «plane_ref»)) ⌝ }
+    requires { ⌜ Lies b (length (now cur)) × Lies b (length (now reference)) ⌝ }
     requires { ⌜ ((k : ℕ) → k < cols .count → Spanned (cols .lo) k) ⌝ }
-    ensures { λ r. ⌜ r ≡ rowOf (rdAt b (now («plane_org» .entry)) (now («plane_ref» .entry)) lambda) current row cols ⌝ }
+    ensures { λ r. ⌜ r ≡ rowOf (rdAt b (now (cur .entry)) (now (reference .entry)) weight) current row cols ⌝ }
 {
     let lo = cols.lo;
     let n = cols.count;
@@ -32,7 +32,7 @@ fn search_row(
     let mut k = 0;
     while k < n {
         let col = span_at(lo, k);
-        best = best.try_mv(b, plane_org, plane_ref, lambda, MotionVector { row, col });
+        best = best.try_mv(b, cur, reference, weight, MotionVector { row, col });
         k += 1;
     }
     best
@@ -41,15 +41,15 @@ fn search_row(
 // A window in raster order, from an empty best.
 pub fn full_search(
     b: Block,
-    plane_org: &[u8],
-    plane_ref: &[u8],
-    lambda: u32,
+    cur: &[u8],
+    reference: &[u8],
+    weight: u32,
     window: Window,
 ) -> MotionSearchResult
-    requires { ⌜ Lies b (length (now «plane_org»)) × Lies b (length (now «plane_ref»)) ⌝ }
+    requires { ⌜ Lies b (length (now cur)) × Lies b (length (now reference)) ⌝ }
     requires { ⌜ ((k : ℕ) → k < window .rows .count → Spanned (window .rows .lo) k) ⌝ }
     requires { ⌜ ((k : ℕ) → k < window .cols .count → Spanned (window .cols .lo) k) ⌝ }
-    ensures { λ r. ⌜ r ≡ fullSearch (rdAt b (now («plane_org» .entry)) (now («plane_ref» .entry)) lambda) window ⌝ }
+    ensures { λ r. ⌜ r ≡ fullSearch (rdAt b (now (cur .entry)) (now (reference .entry)) weight) window ⌝ }
 {
     let rows = window.rows;
     let cols = window.cols;
@@ -59,7 +59,7 @@ pub fn full_search(
     let mut k = 0;
     while k < n {
         let row = span_at(lo, k);
-        best = search_row(b, plane_org, plane_ref, lambda, row, cols, best);
+        best = search_row(b, cur, reference, weight, row, cols, best);
         k += 1;
     }
     best

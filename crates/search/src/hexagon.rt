@@ -23,19 +23,19 @@ pub struct HexCand {
 
 fn try_index(
     b: Block,
-    plane_org: &[u8],
-    plane_ref: &[u8],
-    lambda: u32,
+    cur: &[u8],
+    reference: &[u8],
+    weight: u32,
     center: MotionVector,
     i: usize,
     cand: HexCand,
 ) -> HexCand
-    requires { ⌜ Lies b (length (now «plane_org»)) × Lies b (length (now «plane_ref»)) ⌝ }
+    requires { ⌜ Lies b (length (now cur)) × Lies b (length (now reference)) ⌝ }
     requires { ⌜ (i < 6) × Near center ⌝ }
-    ensures { λ r. ⌜ r ≡ tryIndex (rdAt b (now («plane_org» .entry)) (now («plane_ref» .entry)) lambda) center cand i ⌝ }
+    ensures { λ r. ⌜ r ≡ tryIndex (rdAt b (now (cur .entry)) (now (reference .entry)) weight) center cand i ⌝ }
 {
     let mv = hexagon_point(center, i);
-    let rd = get_fullpel_mv_rd(b, plane_org, plane_ref, lambda, mv);
+    let rd = get_fullpel_mv_rd(b, cur, reference, weight, mv);
     let best = cand.best;
     if rd.cost < best.rd.cost {
         HexCand {
@@ -48,16 +48,10 @@ fn try_index(
 }
 
 // All six points.
-fn hexagon_six(
-    b: Block,
-    plane_org: &[u8],
-    plane_ref: &[u8],
-    lambda: u32,
-    center: MotionVector,
-) -> HexCand
-    requires { ⌜ Lies b (length (now «plane_org»)) × Lies b (length (now «plane_ref»)) ⌝ }
+fn hexagon_six(b: Block, cur: &[u8], reference: &[u8], weight: u32, center: MotionVector) -> HexCand
+    requires { ⌜ Lies b (length (now cur)) × Lies b (length (now reference)) ⌝ }
     requires { ⌜ Near center ⌝ }
-    ensures { λ r. ⌜ r ≡ hexagonSix (rdAt b (now («plane_org» .entry)) (now («plane_ref» .entry)) lambda) center ⌝ }
+    ensures { λ r. ⌜ r ≡ hexagonSix (rdAt b (now (cur .entry)) (now (reference .entry)) weight) center ⌝ }
 {
     let mut cand = HexCand {
         idx: 0,
@@ -65,7 +59,7 @@ fn hexagon_six(
     };
     let mut i = 0;
     while i < 6 {
-        cand = try_index(b, plane_org, plane_ref, lambda, center, i, cand);
+        cand = try_index(b, cur, reference, weight, center, i, cand);
         i += 1;
     }
     cand
@@ -74,51 +68,43 @@ fn hexagon_six(
 // The three points that the move by `idx` has not tried yet.
 fn hexagon_three(
     b: Block,
-    plane_org: &[u8],
-    plane_ref: &[u8],
-    lambda: u32,
+    cur: &[u8],
+    reference: &[u8],
+    weight: u32,
     center: MotionVector,
     idx: usize,
 ) -> HexCand
-    requires { ⌜ Lies b (length (now «plane_org»)) × Lies b (length (now «plane_ref»)) ⌝ }
+    requires { ⌜ Lies b (length (now cur)) × Lies b (length (now reference)) ⌝ }
     requires { ⌜ (idx < 6) × Near center ⌝ }
-    ensures { λ r. ⌜ r ≡ hexagonThree (rdAt b (now («plane_org» .entry)) (now («plane_ref» .entry)) lambda) center idx ⌝ }
+    ensures { λ r. ⌜ r ≡ hexagonThree (rdAt b (now (cur .entry)) (now (reference .entry)) weight) center idx ⌝ }
 {
     let none = HexCand {
         idx,
         best: MotionSearchResult::empty(),
     };
-    let first = try_index(b, plane_org, plane_ref, lambda, center, (idx + 5) % 6, none);
-    let second = try_index(b, plane_org, plane_ref, lambda, center, idx, first);
-    try_index(
-        b,
-        plane_org,
-        plane_ref,
-        lambda,
-        center,
-        (idx + 1) % 6,
-        second,
-    )
+    let first = try_index(b, cur, reference, weight, center, (idx + 5) % 6, none);
+    let second = try_index(b, cur, reference, weight, center, idx, first);
+    try_index(b, cur, reference, weight, center, (idx + 1) % 6, second)
 }
 
 // One round of the eight square points.
 fn square_refine(
     b: Block,
-    plane_org: &[u8],
-    plane_ref: &[u8],
-    lambda: u32,
+    cur: &[u8],
+    reference: &[u8],
+    weight: u32,
     current: MotionSearchResult,
 ) -> MotionSearchResult
-    requires { ⌜ Lies b (length (now «plane_org»)) × Lies b (length (now «plane_ref»)) ⌝ }
+    requires { ⌜ Lies b (length (now cur)) × Lies b (length (now reference)) ⌝ }
     requires { ⌜ Near (current .mv) ⌝ }
-    ensures { λ r. ⌜ r ≡ squareRound (rdAt b (now («plane_org» .entry)) (now («plane_ref» .entry)) lambda) current ⌝ }
+    ensures { λ r. ⌜ r ≡ squareRound (rdAt b (now (cur .entry)) (now (reference .entry)) weight) current ⌝ }
 {
     let empty = MotionSearchResult::empty();
     let best_cand = try_pattern(
         b,
-        plane_org,
-        plane_ref,
-        lambda,
+        cur,
+        reference,
+        weight,
         Pattern::Square,
         current.mv,
         empty,
@@ -129,22 +115,22 @@ fn square_refine(
 // Moves by the hexagon while it finds a cheaper point, then tries the square once.
 pub fn hexagon_search(
     b: Block,
-    plane_org: &[u8],
-    plane_ref: &[u8],
-    lambda: u32,
+    cur: &[u8],
+    reference: &[u8],
+    weight: u32,
     start: MotionSearchResult,
 ) -> MotionSearchResult
-    requires { ⌜ Lies b (length (now «plane_org»)) × Lies b (length (now «plane_ref»)) ⌝ }
+    requires { ⌜ Lies b (length (now cur)) × Lies b (length (now reference)) ⌝ }
     requires { ⌜ inRange (b .range) (start .mv) ≡ true ⌝ }
-    ensures { λ r. ⌜ r ≡ hexagon (rdAt b (now («plane_org» .entry)) (now («plane_ref» .entry)) lambda) start ⌝ }
+    ensures { λ r. ⌜ r ≡ hexagon (rdAt b (now (cur .entry)) (now (reference .entry)) weight) start ⌝ }
 {
     let mut current = start;
-    let mut cand = hexagon_six(b, plane_org, plane_ref, lambda, current.mv);
+    let mut cand = hexagon_six(b, cur, reference, weight, current.mv);
     while cand.best.rd.cost < current.rd.cost {
         let best = cand.best;
         let idx = cand.idx;
         current = best;
-        cand = hexagon_three(b, plane_org, plane_ref, lambda, best.mv, idx);
+        cand = hexagon_three(b, cur, reference, weight, best.mv, idx);
     }
-    square_refine(b, plane_org, plane_ref, lambda, current)
+    square_refine(b, cur, reference, weight, current)
 }

@@ -15,97 +15,65 @@ ghost use Rattle.search.specs.MultiHexagon.{cross, eighthsSquare, rings,
 // Rows, then columns, both round the start.
 fn cross_search(
     b: Block,
-    plane_org: &[u8],
-    plane_ref: &[u8],
-    lambda: u32,
+    cur: &[u8],
+    reference: &[u8],
+    weight: u32,
     current: MotionSearchResult,
 ) -> MotionSearchResult
-    requires { ⌜ Lies b (length (now «plane_org»)) × Lies b (length (now «plane_ref»)) ⌝ }
+    requires { ⌜ Lies b (length (now cur)) × Lies b (length (now reference)) ⌝ }
     requires { ⌜ Near (current .mv) ⌝ }
-    ensures { λ r. ⌜ r ≡ cross (rdAt b (now («plane_org» .entry)) (now («plane_ref» .entry)) lambda) current ⌝ }
+    ensures { λ r. ⌜ r ≡ cross (rdAt b (now (cur .entry)) (now (reference .entry)) weight) current ⌝ }
 {
     let center = current.mv;
-    let rows = try_pattern(
-        b,
-        plane_org,
-        plane_ref,
-        lambda,
-        Pattern::RowLine,
-        center,
-        current,
-    );
-    try_pattern(
-        b,
-        plane_org,
-        plane_ref,
-        lambda,
-        Pattern::ColLine,
-        center,
-        rows,
-    )
+    let rows = try_pattern(b, cur, reference, weight, Pattern::RowLine, center, current);
+    try_pattern(b, cur, reference, weight, Pattern::ColLine, center, rows)
 }
 
 // The 24 neighbours of the best so far, in eighths.
 fn eighths_square_search(
     b: Block,
-    plane_org: &[u8],
-    plane_ref: &[u8],
-    lambda: u32,
+    cur: &[u8],
+    reference: &[u8],
+    weight: u32,
     current: MotionSearchResult,
 ) -> MotionSearchResult
-    requires { ⌜ Lies b (length (now «plane_org»)) × Lies b (length (now «plane_ref»)) ⌝ }
+    requires { ⌜ Lies b (length (now cur)) × Lies b (length (now reference)) ⌝ }
     requires { ⌜ Near (current .mv) ⌝ }
-    ensures { λ r. ⌜ r ≡ eighthsSquare (rdAt b (now («plane_org» .entry)) (now («plane_ref» .entry)) lambda) current ⌝ }
+    ensures { λ r. ⌜ r ≡ eighthsSquare (rdAt b (now (cur .entry)) (now (reference .entry)) weight) current ⌝ }
 {
     let center = current.mv;
-    try_pattern(
-        b,
-        plane_org,
-        plane_ref,
-        lambda,
-        Pattern::Eighths,
-        center,
-        current,
-    )
+    try_pattern(b, cur, reference, weight, Pattern::Eighths, center, current)
 }
 
 // The sixteen points times 1 to 6, round the best so far.
 fn rings_search(
     b: Block,
-    plane_org: &[u8],
-    plane_ref: &[u8],
-    lambda: u32,
+    cur: &[u8],
+    reference: &[u8],
+    weight: u32,
     current: MotionSearchResult,
 ) -> MotionSearchResult
-    requires { ⌜ Lies b (length (now «plane_org»)) × Lies b (length (now «plane_ref»)) ⌝ }
+    requires { ⌜ Lies b (length (now cur)) × Lies b (length (now reference)) ⌝ }
     requires { ⌜ Near (current .mv) ⌝ }
-    ensures { λ r. ⌜ r ≡ rings (rdAt b (now («plane_org» .entry)) (now («plane_ref» .entry)) lambda) current ⌝ }
+    ensures { λ r. ⌜ r ≡ rings (rdAt b (now (cur .entry)) (now (reference .entry)) weight) current ⌝ }
 {
     let center = current.mv;
-    try_pattern(
-        b,
-        plane_org,
-        plane_ref,
-        lambda,
-        Pattern::Umh,
-        center,
-        current,
-    )
+    try_pattern(b, cur, reference, weight, Pattern::Umh, center, current)
 }
 
 pub fn uneven_multi_hex_search(
     b: Block,
-    plane_org: &[u8],
-    plane_ref: &[u8],
-    lambda: u32,
+    cur: &[u8],
+    reference: &[u8],
+    weight: u32,
     start: MotionSearchResult,
 ) -> MotionSearchResult
-    requires { ⌜ Lies b (length (now «plane_org»)) × Lies b (length (now «plane_ref»)) ⌝ }
+    requires { ⌜ Lies b (length (now cur)) × Lies b (length (now reference)) ⌝ }
     requires { ⌜ inRange (b .range) (start .mv) ≡ true ⌝ }
-    ensures { λ r. ⌜ r ≡ multiHexagon (rdAt b (now («plane_org» .entry)) (now («plane_ref» .entry)) lambda) start ⌝ }
+    ensures { λ r. ⌜ r ≡ multiHexagon (rdAt b (now (cur .entry)) (now (reference .entry)) weight) start ⌝ }
 {
-    let crossed = cross_search(b, plane_org, plane_ref, lambda, start);
-    let near = eighths_square_search(b, plane_org, plane_ref, lambda, crossed);
-    let far = rings_search(b, plane_org, plane_ref, lambda, near);
-    hexagon_search(b, plane_org, plane_ref, lambda, far)
+    let crossed = cross_search(b, cur, reference, weight, start);
+    let near = eighths_square_search(b, cur, reference, weight, crossed);
+    let far = rings_search(b, cur, reference, weight, near);
+    hexagon_search(b, cur, reference, weight, far)
 }

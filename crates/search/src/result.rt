@@ -48,13 +48,13 @@ impl MotionSearchResult {
     pub fn try_mv(
         self,
         b: Block,
-        plane_org: &[u8],
-        plane_ref: &[u8],
-        lambda: u32,
+        cur: &[u8],
+        reference: &[u8],
+        weight: u32,
         cand_mv: MotionVector,
     ) -> MotionSearchResult
-        requires { ⌜ Lies b (length (now «plane_org»)) × Lies b (length (now «plane_ref»)) ⌝ }
-        ensures { λ r. ⌜ r ≡ tryOne (rdAt b (now («plane_org» .entry)) (now («plane_ref» .entry)) lambda) self «cand_mv» ⌝ }
+        requires { ⌜ Lies b (length (now cur)) × Lies b (length (now reference)) ⌝ }
+        ensures { λ r. ⌜ r ≡ tryOne (rdAt b (now (cur .entry)) (now (reference .entry)) weight) self «cand_mv» ⌝ }
     {
         // Out of range it costs the most, and the most is never cheaper.
         if !b.range.holds(cand_mv) {
@@ -62,8 +62,8 @@ impl MotionSearchResult {
         }
         let src = org_start(b);
         let dst = ref_start(b, cand_mv);
-        let sad = get_sad(plane_org, src, plane_ref, dst, b.stride, b.w, b.h);
-        let rd = compute_mv_rd(lambda, sad, cand_mv);
+        let sad = get_sad(cur, src, reference, dst, b.stride, b.w, b.h);
+        let rd = compute_mv_rd(weight, sad, cand_mv);
         self.or_cheaper(MotionSearchResult { mv: cand_mv, rd })
     }
 }
@@ -71,23 +71,23 @@ impl MotionSearchResult {
 // Tries every point of a pattern round a centre that stays.
 pub fn try_pattern(
     b: Block,
-    plane_org: &[u8],
-    plane_ref: &[u8],
-    lambda: u32,
+    cur: &[u8],
+    reference: &[u8],
+    weight: u32,
     pattern: Pattern,
     center: MotionVector,
     current: MotionSearchResult,
 ) -> MotionSearchResult
-    requires { ⌜ Lies b (length (now «plane_org»)) × Lies b (length (now «plane_ref»)) ⌝ }
+    requires { ⌜ Lies b (length (now cur)) × Lies b (length (now reference)) ⌝ }
     requires { ⌜ Plain pattern × Near center ⌝ }
-    ensures { λ r. ⌜ r ≡ tryPattern (rdAt b (now («plane_org» .entry)) (now («plane_ref» .entry)) lambda) current pattern center ⌝ }
+    ensures { λ r. ⌜ r ≡ tryPattern (rdAt b (now (cur .entry)) (now (reference .entry)) weight) current pattern center ⌝ }
 {
     let n = pattern_points(pattern);
     let mut best = current;
     let mut i = 0;
     while i < n {
         let cand_mv = pattern_point(pattern, center, i);
-        best = best.try_mv(b, plane_org, plane_ref, lambda, cand_mv);
+        best = best.try_mv(b, cur, reference, weight, cand_mv);
         i += 1;
     }
     best

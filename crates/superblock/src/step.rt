@@ -101,15 +101,15 @@ fn refine_sb_motion(
     superblock: usize,
     cur: &[u8],
     reference: &[u8],
-    lambda: u32,
+    weight: u32,
     rows: &mut [i16],
     cols: &mut [i16],
     sads: &mut [u32],
 )
-    requires { ⌜ Ready (inputsOf width height level (now cur) (now reference) lambda) × (superblock < superblocks width height) ⌝ }
+    requires { ⌜ Ready (inputsOf width height level (now cur) (now reference) weight) × (superblock < superblocks width height) ⌝ }
     requires { ⌜ Held width height (gridOf (now rows) (now cols) (now sads)) ⌝ }
     requires { ⌜ windowsOk width height level superblock (now rows) (now cols) ≡ true ⌝ }
-    ensures { λ r. ⌜ gridOf (now (rows .exit)) (now (cols .exit)) (now (sads .exit)) ≡ refinements (inputsOf width height level (now (cur .entry)) (now (reference .entry)) lambda) superblock (gridOf (now (rows .entry)) (now (cols .entry)) (now (sads .entry))) ⌝ }
+    ensures { λ r. ⌜ gridOf (now (rows .exit)) (now (cols .exit)) (now (sads .exit)) ≡ refinements (inputsOf width height level (now (cur .entry)) (now (reference .entry)) weight) superblock (gridOf (now (rows .entry)) (now (cols .entry)) (now (sads .entry))) ⌝ }
 {
     let mv_size = level_of(level).refined;
     let count = refined_count(width, height, level, superblock);
@@ -125,7 +125,7 @@ fn refine_sb_motion(
             by,
             cur,
             reference,
-            lambda,
+            weight,
             &*rows,
             &*cols,
         );
@@ -142,7 +142,7 @@ fn estimate_sb_motion(
     superblock: usize,
     cur: &[u8],
     reference: &[u8],
-    lambda: u32,
+    weight: u32,
     present: bool,
     prev_rows: &[i16],
     prev_cols: &[i16],
@@ -151,10 +151,10 @@ fn estimate_sb_motion(
     cols: &mut [i16],
     sads: &mut [u32],
 )
-    requires { ⌜ Ready (inputsOf width height level (now cur) (now reference) lambda) × (superblock < superblocks width height) ⌝ }
+    requires { ⌜ Ready (inputsOf width height level (now cur) (now reference) weight) × (superblock < superblocks width height) ⌝ }
     requires { ⌜ HeldIf width height (previousOf present (gridOf (now «prev_rows») (now «prev_cols») (now «prev_sads»))) ⌝ }
     requires { ⌜ Held width height (gridOf (now rows) (now cols) (now sads)) ⌝ }
-    ensures { λ r. ⌜ gridOf (now (rows .exit)) (now (cols .exit)) (now (sads .exit)) ≡ estimates (inputsOf width height level (now (cur .entry)) (now (reference .entry)) lambda) (previousOf present (gridOf (now («prev_rows» .entry)) (now («prev_cols» .entry)) (now («prev_sads» .entry)))) superblock (gridOf (now (rows .entry)) (now (cols .entry)) (now (sads .entry))) ⌝ }
+    ensures { λ r. ⌜ gridOf (now (rows .exit)) (now (cols .exit)) (now (sads .exit)) ≡ estimates (inputsOf width height level (now (cur .entry)) (now (reference .entry)) weight) (previousOf present (gridOf (now («prev_rows» .entry)) (now («prev_cols» .entry)) (now («prev_sads» .entry)))) superblock (gridOf (now (rows .entry)) (now (cols .entry)) (now (sads .entry))) ⌝ }
 {
     let mv_size = level_of(level).mv_size;
     let count = block_count(width, height, mv_size, superblock);
@@ -170,7 +170,7 @@ fn estimate_sb_motion(
             by,
             cur,
             reference,
-            lambda,
+            weight,
             present,
             prev_rows,
             prev_cols,
@@ -192,7 +192,7 @@ pub fn superblock_step(
     superblock: usize,
     cur: &[u8],
     reference: &[u8],
-    lambda: u32,
+    weight: u32,
     present: bool,
     prev_rows: &[i16],
     prev_cols: &[i16],
@@ -201,11 +201,11 @@ pub fn superblock_step(
     cols: &mut [i16],
     sads: &mut [u32],
 ) -> bool
-    requires { ⌜ Ready (inputsOf width height level (now cur) (now reference) lambda) × (superblock < superblocks width height) ⌝ }
+    requires { ⌜ Ready (inputsOf width height level (now cur) (now reference) weight) × (superblock < superblocks width height) ⌝ }
     requires { ⌜ HeldIf width height (previousOf present (gridOf (now «prev_rows») (now «prev_cols») (now «prev_sads»))) ⌝ }
     requires { ⌜ Held width height (gridOf (now rows) (now cols) (now sads)) ⌝ }
     ensures { λ r. ⌜ r ≡ windowsOk width height level superblock (now (rows .entry)) (now (cols .entry)) ⌝ }
-    ensures { λ r. ⌜ gridOf (now (rows .exit)) (now (cols .exit)) (now (sads .exit)) ≡ step (inputsOf width height level (now (cur .entry)) (now (reference .entry)) lambda) (previousOf present (gridOf (now («prev_rows» .entry)) (now («prev_cols» .entry)) (now («prev_sads» .entry)))) superblock (gridOf (now (rows .entry)) (now (cols .entry)) (now (sads .entry))) ⌝ }
+    ensures { λ r. ⌜ gridOf (now (rows .exit)) (now (cols .exit)) (now (sads .exit)) ≡ step (inputsOf width height level (now (cur .entry)) (now (reference .entry)) weight) (previousOf present (gridOf (now («prev_rows» .entry)) (now («prev_cols» .entry)) (now («prev_sads» .entry)))) superblock (gridOf (now (rows .entry)) (now (cols .entry)) (now (sads .entry))) ⌝ }
 {
     if !windows_ok(width, height, level, superblock, &*rows, &*cols) {
         return false;
@@ -217,7 +217,7 @@ pub fn superblock_step(
         superblock,
         cur,
         reference,
-        lambda,
+        weight,
         rows,
         cols,
         sads,
@@ -229,7 +229,7 @@ pub fn superblock_step(
         superblock,
         cur,
         reference,
-        lambda,
+        weight,
         present,
         prev_rows,
         prev_cols,

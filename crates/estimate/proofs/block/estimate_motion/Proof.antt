@@ -38,7 +38,7 @@ module _ (c : tie.Start) where
   mvs = subsetsOf (c .args .width) (c .args .height) (c .args .level) (c .args .bx) (c .args .by) (c .args .present) (gridOf (now (c .args .prev-rows)) (now (c .args .prev-cols)) (now (c .args .prev-sads))) (gridOf (now (c .args .rows)) (now (c .args .cols)) (now (c .args .sads)))
 
   abbrev best : MotionSearchResult
-  best = fullPixelMe (rdAt block (now (c .args .cur)) (now (c .args .reference)) (c .args .lambda)) (c .args .level) mvs
+  best = fullPixelMe (rdAt block (now (c .args .cur)) (now (c .args .reference)) (c .args .weight)) (c .args .level) mvs
 
   sized : Sized (levelOf (c .args .level)) (levelOf (c .args .level) .«mv_size»)
   sized = own-sized (c .pre .0 .leveled)
@@ -56,7 +56,7 @@ best-is c =
     let p = c .before in
     let a = p .before .before .before .before .before .before .before .args in
     c .full-pixel-me .ensures
-    ∙ ap₂ (λ (b : Block) (m : MotionEstimationSubsets). fullPixelMe (rdAt b (now (a .cur)) (now (a .reference)) (a .lambda)) (a .level) m) (block-is (p .before)) (p .get-subset-predictors .ensures)
+    ∙ ap₂ (λ (b : Block) (m : MotionEstimationSubsets). fullPixelMe (rdAt b (now (a .cur)) (now (a .reference)) (a .weight)) (a .level) m) (block-is (p .before)) (p .get-subset-predictors .ensures)
 
 level-of-requires : tie.Need-level-of-requires
 level-of-requires c κs = search needs
@@ -103,9 +103,9 @@ stats-of-requires c κs =
     let hr : Under largestSample ref = λ i. omega (arith, second .shared-slice-known2 .given i) in
     let z = block-zero ready (sized entry) (starts .0) (starts .1) in
     let m = block-lies ready (sized entry) (starts .0) (starts .1) .0 .measured in
-    let s = fullPixelMe-settled (block entry) cur ref (a .lambda) z m hc hr (omega (arith, entry .fits .lambda)) (mvs entry) (sound entry) (a .level) in
+    let s = fullPixelMe-settled (block entry) cur ref (a .weight) z m hc hr (omega (arith, entry .fits .weight)) (mvs entry) (sound entry) (a .level) in
     block-saves ready (sized entry) (starts .0) (starts .1) (at .before .level-of .ensures) (block-is at) hc hr
-    (subst (Settled (block entry) cur ref (a .lambda)) (sym (best-is c)) s)
+    (subst (Settled (block entry) cur ref (a .weight)) (sym (best-is c)) s)
 
 returns : tie.Need-returns
 unfolding estimateMotion blockIn costIn

@@ -62,7 +62,7 @@ module _ (c : tie.Start) where
   stored = firstStored (c .args .width) (c .args .bx) (c .args .by) (now (c .args .rows)) (now (c .args .cols))
 
   abbrev best : MotionSearchResult
-  best = refine (rdAt block (now (c .args .cur)) (now (c .args .reference)) (c .args .lambda)) (block .range) stored (levelOf (c .args .level) .ssdec)
+  best = refine (rdAt block (now (c .args .cur)) (now (c .args .reference)) (c .args .weight)) (block .range) stored (levelOf (c .args .level) .ssdec)
 
   sized : Sized (levelOf (c .args .level)) (levelOf (c .args .level) .refined)
   sized = refined-sized (c .pre .0 .leveled)
@@ -92,7 +92,7 @@ best-is c =
     let at = w .before .before in
     let a = at .before .before .before .before .args in
     c .full-search .ensures
-    ∙ (λ i. fullSearch (rdAt (block-is at i) (now (a .cur)) (now (a .reference)) (a .lambda)) (window-is w i))
+    ∙ (λ i. fullSearch (rdAt (block-is at i) (now (a .cur)) (now (a .reference)) (a .weight)) (window-is w i))
 
 level-of-requires : tie.Need-level-of-requires
 level-of-requires c κs = search needs
@@ -145,9 +145,9 @@ stats-of-requires c κs =
     let hr : Under largestSample ref = λ i. omega (arith, second .shared-slice-known2 .given i) in
     let m = block-lies ready (sized entry) (starts .0) (starts .1) .0 .measured in
     let any = some (refineWindow (block entry .range) (stored entry) s) (entry .pre .1 .1 .1) in
-    let found = refine-settled (block entry) cur ref (a .lambda) m hc hr (omega (arith, entry .fits .lambda)) (zero-between entry) (stored entry) (stored-fits first) s (any .0) (any .1) in
+    let found = refine-settled (block entry) cur ref (a .weight) m hc hr (omega (arith, entry .fits .weight)) (zero-between entry) (stored entry) (stored-fits first) s (any .0) (any .1) in
     block-saves ready (sized entry) (starts .0) (starts .1) (at .before .level-of .ensures) (block-is at) hc hr
-    (subst (Settled (block entry) cur ref (a .lambda)) (sym (best-is c)) found)
+    (subst (Settled (block entry) cur ref (a .weight)) (sym (best-is c)) found)
 
 returns : tie.Need-returns
 unfolding refineMotion blockIn costIn

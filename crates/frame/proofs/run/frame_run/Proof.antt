@@ -14,13 +14,13 @@ use Rattle.frame.proofs.run.frame_run.Tie as tie
 
 -- at entry: what each level works with, the previous grid, the list and the grid
 abbrev inputs4 : tie.Start → Inputs
-inputs4 c = inputsOf (c .args .width) (c .args .height) 4 (now (c .args .cur-quarter)) (now (c .args .ref-quarter)) (c .args .lambda)
+inputs4 c = inputsOf (c .args .width) (c .args .height) 4 (now (c .args .cur-quarter)) (now (c .args .ref-quarter)) (c .args .weight)
 
 abbrev inputs3 : tie.Start → Inputs
-inputs3 c = inputsOf (c .args .width) (c .args .height) 3 (now (c .args .cur-half)) (now (c .args .ref-half)) (c .args .lambda)
+inputs3 c = inputsOf (c .args .width) (c .args .height) 3 (now (c .args .cur-half)) (now (c .args .ref-half)) (c .args .weight)
 
 abbrev inputs2 : tie.Start → Inputs
-inputs2 c = inputsOf (c .args .width) (c .args .height) 2 (now (c .args .cur)) (now (c .args .reference)) (c .args .lambda)
+inputs2 c = inputsOf (c .args .width) (c .args .height) 2 (now (c .args .cur)) (now (c .args .reference)) (c .args .weight)
 
 abbrev previous : tie.Start → Previous
 previous c = previousOf (c .args .present) (gridOf (now (c .args .prev-rows)) (now (c .args .prev-cols)) (now (c .args .prev-sads)))

@@ -19,17 +19,17 @@ use Rattle.frame.proofs.run.level_run.Statement.{statement}
 use Rattle.frame.proofs.run.level_run.Tie as tie
 
 abbrev Inv-loop : tie.InvT-loop
-Inv-loop width height level cur reference lambda present prev-rows prev-cols prev-sads list rows₀ cols₀ sads₀ k₀ rows cols sads k =
-    (k ≤ length list) × (gridOf rows cols sads ≡ levelRun (inputsOf width height level cur reference lambda) (previousOf present (gridOf prev-rows prev-cols prev-sads)) (take k list) (gridOf rows₀ cols₀ sads₀))
+Inv-loop width height level cur reference weight present prev-rows prev-cols prev-sads list rows₀ cols₀ sads₀ k₀ rows cols sads k =
+    (k ≤ length list) × (gridOf rows cols sads ≡ levelRun (inputsOf width height level cur reference weight) (previousOf present (gridOf prev-rows prev-cols prev-sads)) (take k list) (gridOf rows₀ cols₀ sads₀))
 
 abbrev μ-loop : tie.MeasureT-loop
-μ-loop width height level cur reference lambda present prev-rows prev-cols prev-sads list rows₀ cols₀ sads₀ k₀ rows cols sads k = length list - k
+μ-loop width height level cur reference weight present prev-rows prev-cols prev-sads list rows₀ cols₀ sads₀ k₀ rows cols sads k = length list - k
 
 -- the inputs, the previous grid and the grid at entry
 abbrev inputs : tie.Start Inv-loop μ-loop → Inputs
 inputs c =
     let a = c .args in
-    inputsOf (a .width) (a .height) (a .level) (now (a .cur)) (now (a .reference)) (a .lambda)
+    inputsOf (a .width) (a .height) (a .level) (now (a .cur)) (now (a .reference)) (a .weight)
 
 abbrev previous : tie.Start Inv-loop μ-loop → Previous
 previous c =

@@ -18,12 +18,12 @@ returns : tie.Need-returns
 unfolding rdOf
 returns c =
     let a = c .before .args in
-    let zero : a .lambda ≡ 0 = omega arith in
-    let none : 256 * a .sad ≡ 256 * a .sad + rateV (a .cand-mv) * a .lambda = omega (arith, ap (λ (n : ℕ). rateV (a .cand-mv) * n) zero) in
+    let zero : a .weight ≡ 0 = omega arith in
+    let none : 256 * a .sad ≡ 256 * a .sad + rateV (a .cand-mv) * a .weight = omega (arith, ap (λ (n : ℕ). rateV (a .cand-mv) * n) zero) in
     λ i. record { cost = none i; sad = a .sad }
 
-weighed : (c : tie.After-get-mv-rate) → c .get-mv-rate .result * c .before .before .args .lambda ≤ 64 * c .before .before .args .lambda
-weighed c = mul-le-mul-right (c .before .before .args .lambda) (omega (arith, c .get-mv-rate .ensures, rateV-le (c .before .before .args .cand-mv)))
+weighed : (c : tie.After-get-mv-rate) → c .get-mv-rate .result * c .before .before .args .weight ≤ 64 * c .before .before .args .weight
+weighed c = mul-le-mul-right (c .before .before .args .weight) (omega (arith, c .get-mv-rate .ensures, rateV-le (c .before .before .args .cand-mv)))
 
 get-mv-rate-requires : tie.Need-get-mv-rate-requires
 get-mv-rate-requires c κs = search needs
@@ -44,7 +44,7 @@ returns-2 : tie.Need-returns-2
 unfolding rdOf
 returns-2 c =
     let a = c .before .before .args in
-    λ i. record { cost = 256 * a .sad + (c .get-mv-rate .ensures i) * a .lambda; sad = a .sad }
+    λ i. record { cost = 256 * a .sad + (c .get-mv-rate .ensures i) * a .weight; sad = a .sad }
 
 pub compute-mv-rd-spec : {M : Type 1} → statement M
 compute-mv-rd-spec =

@@ -25,7 +25,7 @@ returns : tie.Need-returns
 returns c =
     let a = c .before .before .before .before .before .args in
     let wide : 16 ≡ a .w = omega arith in
-    c .sad-16 .ensures ∙ ap₂ (λ (w h : ℕ). sadBlock (now (a .plane-org)) (a .src) (now (a .plane-ref)) (a .dst) (a .stride) w h) wide (fours (c .before .before))
+    c .sad-16 .ensures ∙ ap₂ (λ (w h : ℕ). sadBlock (now (a .cur)) (a .src) (now (a .reference)) (a .dst) (a .stride) w h) wide (fours (c .before .before))
 
 sad-32-requires : tie.Need-sad-32-requires
 sad-32-requires c κs =
@@ -37,7 +37,7 @@ returns-2 : tie.Need-returns-2
 returns-2 c =
     let a = c .before .before .before .before .before .before .args in
     let wide : 32 ≡ a .w = omega arith in
-    c .sad-32 .ensures ∙ ap₂ (λ (w h : ℕ). sadBlock (now (a .plane-org)) (a .src) (now (a .plane-ref)) (a .dst) (a .stride) w h) wide (twos (c .before .before .before))
+    c .sad-32 .ensures ∙ ap₂ (λ (w h : ℕ). sadBlock (now (a .cur)) (a .src) (now (a .reference)) (a .dst) (a .stride) w h) wide (twos (c .before .before .before))
 
 sad-rows-requires : tie.Need-sad-rows-requires
 sad-rows-requires c κs = search needs

@@ -14,28 +14,28 @@ use Rattle.sad.proofs.sad.sad_32.Statement.{statement}
 use Rattle.sad.proofs.sad.sad_32.Tie as tie
 
 abbrev Inv-loop : tie.InvT-loop
-Inv-loop plane-org src plane-ref dst stride twos sum₀ k₀ sum k =
-    (k ≤ twos) × (sum ≤ largestSample * 32 * (2 * k)) × (sum ≡ sadBlock plane-org src plane-ref dst stride 32 (2 * k))
+Inv-loop cur src reference dst stride twos sum₀ k₀ sum k =
+    (k ≤ twos) × (sum ≤ largestSample * 32 * (2 * k)) × (sum ≡ sadBlock cur src reference dst stride 32 (2 * k))
 
 abbrev μ-loop : tie.MeasureT-loop
-μ-loop plane-org src plane-ref dst stride twos sum₀ k₀ sum k = twos - k
+μ-loop cur src reference dst stride twos sum₀ k₀ sum k = twos - k
 
 loop-holds : tie.Need-loop-holds Inv-loop μ-loop
 loop-holds c =
     let a = c .before .before .args in
-    (omega arith, omega arith, omega (arith, block-none (a .plane-org .now) (a .src) (a .plane-ref .now) (a .dst) (a .stride) 32))
+    (omega arith, omega arith, omega (arith, block-none (a .cur .now) (a .src) (a .reference .now) (a .dst) (a .stride) 32))
 
 -- the two rows that a turn takes lie inside both slices
 module _ (c : tie.In-loop Inv-loop μ-loop) where
-  org-rows : Inside (length (now (c .before .before .before .before .args .plane-org))) (c .before .before .before .before .args .src + 2 * c .before .loop .k * c .before .before .before .before .args .stride) (c .before .before .before .before .args .stride) 32 2
+  org-rows : Inside (length (now (c .before .before .before .before .args .cur))) (c .before .before .before .before .args .src + 2 * c .before .loop .k * c .before .before .before .before .args .stride) (c .before .before .before .before .args .stride) 32 2
   org-rows =
       let a = c .before .before .before .before .args in
-      turn-inside (length (now (a .plane-org))) (a .src) (a .stride) 32 2 (c .before .loop .k) (a .twos) (omega arith) (c .before .before .before .before .pre .0 .0)
+      turn-inside (length (now (a .cur))) (a .src) (a .stride) 32 2 (c .before .loop .k) (a .twos) (omega arith) (c .before .before .before .before .pre .0 .0)
 
-  ref-rows : Inside (length (now (c .before .before .before .before .args .plane-ref))) (c .before .before .before .before .args .dst + 2 * c .before .loop .k * c .before .before .before .before .args .stride) (c .before .before .before .before .args .stride) 32 2
+  ref-rows : Inside (length (now (c .before .before .before .before .args .reference))) (c .before .before .before .before .args .dst + 2 * c .before .loop .k * c .before .before .before .before .args .stride) (c .before .before .before .before .args .stride) 32 2
   ref-rows =
       let a = c .before .before .before .before .args in
-      turn-inside (length (now (a .plane-ref))) (a .dst) (a .stride) 32 2 (c .before .loop .k) (a .twos) (omega arith) (c .before .before .before .before .pre .0 .1)
+      turn-inside (length (now (a .reference))) (a .dst) (a .stride) 32 2 (c .before .loop .k) (a .twos) (omega arith) (c .before .before .before .before .pre .0 .1)
 
 mul-down : tie.Need-mul-down Inv-loop μ-loop
 mul-down c = omega arith
@@ -58,8 +58,8 @@ rows-bound c =
     let entry = c .before .before .before .before in
     let a = entry .before .args in
     let down = 2 * c .before .before .loop .k * a .stride in
-    let cur = a .plane-org .now in
-    let ref = a .plane-ref .now in
+    let cur = a .cur .now in
+    let ref = a .reference .now in
     let known : Under largestSample cur = λ i. omega (arith, entry .shared-slice-known .given i) in
     let known2 : Under largestSample ref = λ i. omega (arith, c .before .before .before .shared-slice-known2 .given i) in
     omega (arith, c .sad-two-rows .ensures, block-le largestSample cur ref known known2 (a .src + down) (a .dst + down) (a .stride) 32 2)
@@ -76,7 +76,7 @@ loop-less c = omega arith
 loop-again : tie.Need-loop-again Inv-loop μ-loop
 loop-again c =
     let a = c .before .before .before .before .before .args in
-    let more = turn-more (a .plane-org .now) (a .src) (a .plane-ref .now) (a .dst) (a .stride) 32 2 (c .before .before .loop .k) in
+    let more = turn-more (a .cur .now) (a .src) (a .reference .now) (a .dst) (a .stride) 32 2 (c .before .before .loop .k) in
     (omega arith, omega (arith, rows-bound c), omega (arith, more, c .before .before .loop .inv .2, c .sad-two-rows .ensures))
 
 returns : tie.Need-returns Inv-loop μ-loop

@@ -13,10 +13,10 @@ use Rattle.sad.proofs.sad.sad_four_rows.Tie as tie
 
 -- each row lies inside both slices
 module _ (c : tie.Start) (y : ℕ) (h : y < 4) where
-  org-row : c .args .src + y * c .args .stride + 16 ≤ length (now (c .args .plane-org))
+  org-row : c .args .src + y * c .args .stride + 16 ≤ length (now (c .args .cur))
   org-row = c .pre .0 y h
 
-  ref-row : c .args .dst + y * c .args .stride + 16 ≤ length (now (c .args .plane-ref))
+  ref-row : c .args .dst + y * c .args .stride + 16 ≤ length (now (c .args .reference))
   ref-row = c .pre .1 y h
 
 mul-two : tie.Need-mul-two
@@ -56,11 +56,11 @@ sad-row-requires-4 : tie.Need-sad-row-requires-4
 sad-row-requires-4 c κs = (omega (arith, org-row (c .before .before .before .before .before) 3 (omega arith)), omega (arith, ref-row (c .before .before .before .before .before) 3 (omega arith)), omega arith)
 
 -- a row of 16 bytes
-row-bound : (c : tie.After-sad-row4) (s d : ℕ) → sadRow (now (c .before .before .before .before .before .before .args .plane-org)) s (now (c .before .before .before .before .before .before .args .plane-ref)) d 16 ≤ largestSample * 16
+row-bound : (c : tie.After-sad-row4) (s d : ℕ) → sadRow (now (c .before .before .before .before .before .before .args .cur)) s (now (c .before .before .before .before .before .before .args .reference)) d 16 ≤ largestSample * 16
 row-bound c s d =
     let entry = c .before .before .before .before .before in
-    let cur = now (entry .before .args .plane-org) in
-    let ref = now (entry .before .args .plane-ref) in
+    let cur = now (entry .before .args .cur) in
+    let ref = now (entry .before .args .reference) in
     let known : Under largestSample cur = λ i. omega (arith, entry .shared-slice-known .given i) in
     let known2 : Under largestSample ref = λ i. omega (arith, c .before .before .before .before .shared-slice-known2 .given i) in
     row-le largestSample cur ref known known2 s d 16
@@ -95,7 +95,7 @@ returns c =
     let a = c .before .before .before .before .before .before .args in
     omega (
       arith,
-      four-rows (now (a .plane-org)) (a .src) (now (a .plane-ref)) (a .dst) (a .stride) 16,
+      four-rows (now (a .cur)) (a .src) (now (a .reference)) (a .dst) (a .stride) 16,
       c .before .before .before .sad-row .ensures,
       c .before .before .sad-row2 .ensures,
       c .before .sad-row3 .ensures,

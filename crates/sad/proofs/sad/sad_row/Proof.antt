@@ -12,10 +12,10 @@ use Rattle.sad.proofs.sad.sad_row.Statement.{statement}
 use Rattle.sad.proofs.sad.sad_row.Tie as tie
 
 abbrev Inv-loop : tie.InvT-loop
-Inv-loop plane-org src plane-ref dst w sum₀ x₀ sum x = (x ≤ w) × (sum ≤ largestSample * x) × (sum ≡ sadRow plane-org src plane-ref dst x)
+Inv-loop cur src reference dst w sum₀ x₀ sum x = (x ≤ w) × (sum ≤ largestSample * x) × (sum ≡ sadRow cur src reference dst x)
 
 abbrev μ-loop : tie.MeasureT-loop
-μ-loop plane-org src plane-ref dst w sum₀ x₀ sum x = w - x
+μ-loop cur src reference dst w sum₀ x₀ sum x = w - x
 
 -- two samples differ by at most 65,535
 byte : (c : tie.After-abs-diff Inv-loop μ-loop) → c .abs-diff .result ≤ largestSample
@@ -23,8 +23,8 @@ byte c =
     let entry = c .before .before .before .before .before .before in
     let a = entry .before .args in
     let x = c .before .before .before .before .loop .x in
-    let org = getD (a .plane-org .now) (a .src + x) 0 in
-    let ref = getD (a .plane-ref .now) (a .dst + x) 0 in
+    let org = getD (a .cur .now) (a .src + x) 0 in
+    let ref = getD (a .reference .now) (a .dst + x) 0 in
     let low : org ≤ largestSample = omega (arith, entry .shared-slice-known .given (a .src + x)) in
     let high : ref ≤ largestSample = omega (arith, c .before .before .before .before .before .shared-slice-known2 .given (a .dst + x)) in
     omega (arith, c .abs-diff .ensures, diff-le org ref largestSample low high)
@@ -32,7 +32,7 @@ byte c =
 loop-holds : tie.Need-loop-holds Inv-loop μ-loop
 loop-holds c =
     let a = c .before .before .args in
-    (omega arith, omega arith, omega (arith, row-none (a .plane-org .now) (a .src) (a .plane-ref .now) (a .dst)))
+    (omega arith, omega arith, omega (arith, row-none (a .cur .now) (a .src) (a .reference .now) (a .dst)))
 
 add-abs-diff : tie.Need-add-abs-diff Inv-loop μ-loop
 add-abs-diff c = omega arith
@@ -61,7 +61,7 @@ loop-less c = omega arith
 loop-again : tie.Need-loop-again Inv-loop μ-loop
 loop-again c =
     let a = c .before .before .before .before .before .before .before .args in
-    let more = row-more (a .plane-org .now) (a .src) (a .plane-ref .now) (a .dst) (c .before .before .before .before .loop .x) in
+    let more = row-more (a .cur .now) (a .src) (a .reference .now) (a .dst) (c .before .before .before .before .loop .x) in
     (omega arith, omega (arith, byte c), omega (arith, more, c .before .before .before .before .loop .inv .2, c .abs-diff .ensures))
 
 returns : tie.Need-returns Inv-loop μ-loop

@@ -13,18 +13,18 @@ use Rattle.sad.proofs.sad.sad_rows.Statement.{statement}
 use Rattle.sad.proofs.sad.sad_rows.Tie as tie
 
 abbrev Inv-loop : tie.InvT-loop
-Inv-loop plane-org src plane-ref dst stride w h sum₀ y₀ sum y =
-    (y ≤ h) × (sum ≤ largestSample * largestBlock * y) × (sum ≡ sadBlock plane-org src plane-ref dst stride w y)
+Inv-loop cur src reference dst stride w h sum₀ y₀ sum y =
+    (y ≤ h) × (sum ≤ largestSample * largestBlock * y) × (sum ≡ sadBlock cur src reference dst stride w y)
 
 abbrev μ-loop : tie.MeasureT-loop
-μ-loop plane-org src plane-ref dst stride w h sum₀ y₀ sum y = h - y
+μ-loop cur src reference dst stride w h sum₀ y₀ sum y = h - y
 
 -- the row that a turn takes lies inside both slices
 module _ (c : tie.In-loop Inv-loop μ-loop) where
-  org-row : c .before .before .before .before .args .src + c .before .loop .y * c .before .before .before .before .args .stride + c .before .before .before .before .args .w ≤ length (now (c .before .before .before .before .args .plane-org))
+  org-row : c .before .before .before .before .args .src + c .before .loop .y * c .before .before .before .before .args .stride + c .before .before .before .before .args .w ≤ length (now (c .before .before .before .before .args .cur))
   org-row = c .before .before .before .before .pre .0 .0 (c .before .loop .y) (omega arith)
 
-  ref-row : c .before .before .before .before .args .dst + c .before .loop .y * c .before .before .before .before .args .stride + c .before .before .before .before .args .w ≤ length (now (c .before .before .before .before .args .plane-ref))
+  ref-row : c .before .before .before .before .args .dst + c .before .loop .y * c .before .before .before .before .args .stride + c .before .before .before .before .args .w ≤ length (now (c .before .before .before .before .args .reference))
   ref-row = c .before .before .before .before .pre .0 .1 (c .before .loop .y) (omega arith)
 
 -- a row sums to at most 65,535 a column
@@ -33,8 +33,8 @@ row-bound c =
     let entry = c .before .before .before .before in
     let a = entry .before .args in
     let down = c .before .before .loop .y * a .stride in
-    let cur = a .plane-org .now in
-    let ref = a .plane-ref .now in
+    let cur = a .cur .now in
+    let ref = a .reference .now in
     let known : Under largestSample cur = λ i. omega (arith, entry .shared-slice-known .given i) in
     let known2 : Under largestSample ref = λ i. omega (arith, c .before .before .before .shared-slice-known2 .given i) in
     omega (arith, c .sad-row .ensures, row-le largestSample cur ref known known2 (a .src + down) (a .dst + down) (a .w), entry .before .pre .1 .0)
@@ -42,7 +42,7 @@ row-bound c =
 loop-holds : tie.Need-loop-holds Inv-loop μ-loop
 loop-holds c =
     let a = c .before .before .args in
-    (omega arith, omega arith, omega (arith, block-none (a .plane-org .now) (a .src) (a .plane-ref .now) (a .dst) (a .stride) (a .w)))
+    (omega arith, omega arith, omega (arith, block-none (a .cur .now) (a .src) (a .reference .now) (a .dst) (a .stride) (a .w)))
 
 mul-down : tie.Need-mul-down Inv-loop μ-loop
 mul-down c = omega (arith, org-row c)
@@ -68,7 +68,7 @@ loop-less c = omega arith
 loop-again : tie.Need-loop-again Inv-loop μ-loop
 loop-again c =
     let a = c .before .before .before .before .before .args in
-    let more = block-more (a .plane-org .now) (a .src) (a .plane-ref .now) (a .dst) (a .stride) (a .w) (c .before .before .loop .y) in
+    let more = block-more (a .cur .now) (a .src) (a .reference .now) (a .dst) (a .stride) (a .w) (c .before .before .loop .y) in
     (omega arith, omega (arith, row-bound c), omega (arith, more, c .before .before .loop .inv .2, c .sad-row .ensures))
 
 returns : tie.Need-returns Inv-loop μ-loop

@@ -29,8 +29,8 @@ add-result : tie.Need-add-result
 add-result c =
     let entry = c .before .before .before in
     let a = entry .before .args in
-    let cur = now (a .plane-org) in
-    let ref = now (a .plane-ref) in
+    let cur = now (a .cur) in
+    let ref = now (a .reference) in
     let known : Under largestSample cur = λ i. omega (arith, entry .shared-slice-known .given i) in
     let known2 : Under largestSample ref = λ i. omega (arith, c .before .before .shared-slice-known2 .given i) in
     omega (
@@ -44,7 +44,7 @@ add-result c =
 returns : tie.Need-returns
 returns c =
     let a = c .before .before .before .before .args in
-    omega (arith, two-rows (now (a .plane-org)) (a .src) (now (a .plane-ref)) (a .dst) (a .stride) 32, c .before .sad-row .ensures, c .sad-row2 .ensures)
+    omega (arith, two-rows (now (a .cur)) (a .src) (now (a .reference)) (a .dst) (a .stride) 32, c .before .sad-row .ensures, c .sad-row2 .ensures)
 
 pub sad-two-rows-spec : {M : Type 1} → statement M
 sad-two-rows-spec =

@@ -21,11 +21,11 @@ use Rattle.superblock.proofs.step.estimate_sb_motion.Statement.{stateme
 use Rattle.superblock.proofs.step.estimate_sb_motion.Tie as tie
 
 abbrev Inv-loop : tie.InvT-loop
-Inv-loop width height level superblock cur reference lambda present prev-rows prev-cols prev-sads rows₀ cols₀ sads₀ mv-size count k₀ rows cols sads k =
-    (k ≤ count) × (gridOf rows cols sads ≡ worked (estimateMotion (inputsOf width height level cur reference lambda) (previousOf present (gridOf prev-rows prev-cols prev-sads))) width height (levelOf level .«mv_size») superblock k (gridOf rows₀ cols₀ sads₀))
+Inv-loop width height level superblock cur reference weight present prev-rows prev-cols prev-sads rows₀ cols₀ sads₀ mv-size count k₀ rows cols sads k =
+    (k ≤ count) × (gridOf rows cols sads ≡ worked (estimateMotion (inputsOf width height level cur reference weight) (previousOf present (gridOf prev-rows prev-cols prev-sads))) width height (levelOf level .«mv_size») superblock k (gridOf rows₀ cols₀ sads₀))
 
 abbrev μ-loop : tie.MeasureT-loop
-μ-loop width height level superblock cur reference lambda present prev-rows prev-cols prev-sads rows₀ cols₀ sads₀ mv-size count k₀ rows cols sads k = count - k
+μ-loop width height level superblock cur reference weight present prev-rows prev-cols prev-sads rows₀ cols₀ sads₀ mv-size count k₀ rows cols sads k = count - k
 
 -- at the loop's head: the function's entry, the size, what a block's result is, and the grid at entry and now
 abbrev entry : tie.At-loop Inv-loop μ-loop → tie.Start Inv-loop μ-loop
@@ -37,7 +37,7 @@ size c = levelOf (entry c .args .level) .«mv_size»
 abbrev result : tie.At-loop Inv-loop μ-loop → ℕ → ℕ → Grid → MEStats
 result c =
     let a = entry c .args in
-    estimateMotion (inputsOf (a .width) (a .height) (a .level) (now (a .cur)) (now (a .reference)) (a .lambda)) (previousOf (a .present) (gridOf (now (a .prev-rows)) (now (a .prev-cols)) (now (a .prev-sads))))
+    estimateMotion (inputsOf (a .width) (a .height) (a .level) (now (a .cur)) (now (a .reference)) (a .weight)) (previousOf (a .present) (gridOf (now (a .prev-rows)) (now (a .prev-cols)) (now (a .prev-sads))))
 
 abbrev first : tie.At-loop Inv-loop μ-loop → Grid
 first c = gridOf (now (entry c .args .rows)) (now (entry c .args .cols)) (now (entry c .args .sads))
@@ -98,7 +98,7 @@ block-count-requires c κs =
 loop-holds : tie.Need-loop-holds Inv-loop μ-loop
 loop-holds c =
     let a = c .before .before .before .before .before .before .args in
-    (omega arith, sym (worked-none (estimateMotion (inputsOf (a .width) (a .height) (a .level) (now (a .cur)) (now (a .reference)) (a .lambda)) (previousOf (a .present) (gridOf (now (a .prev-rows)) (now (a .prev-cols)) (now (a .prev-sads))))) (a .width) (a .height) (levelOf (a .level) .«mv_size») (a .superblock) (gridOf (now (a .rows)) (now (a .cols)) (now (a .sads)))))
+    (omega arith, sym (worked-none (estimateMotion (inputsOf (a .width) (a .height) (a .level) (now (a .cur)) (now (a .reference)) (a .weight)) (previousOf (a .present) (gridOf (now (a .prev-rows)) (now (a .prev-cols)) (now (a .prev-sads))))) (a .width) (a .height) (levelOf (a .level) .«mv_size») (a .superblock) (gridOf (now (a .rows)) (now (a .cols)) (now (a .sads)))))
 
 block-x-requires : tie.Need-block-x-requires Inv-loop μ-loop
 block-x-requires c κs = (asked c .0, asked c .2, asked c .3)

@@ -21,11 +21,11 @@ use Rattle.superblock.proofs.step.refine_sb_motion.Statement.{statement
 use Rattle.superblock.proofs.step.refine_sb_motion.Tie as tie
 
 abbrev Inv-loop : tie.InvT-loop
-Inv-loop width height level superblock cur reference lambda rows₀ cols₀ sads₀ mv-size count k₀ rows cols sads k =
-    (k ≤ count) × (gridOf rows cols sads ≡ worked (λ (bx by : ℕ) (g : Grid). refineMotion (inputsOf width height level cur reference lambda) bx by (g .rows) (g .cols)) width height (levelOf level .refined) superblock k (gridOf rows₀ cols₀ sads₀))
+Inv-loop width height level superblock cur reference weight rows₀ cols₀ sads₀ mv-size count k₀ rows cols sads k =
+    (k ≤ count) × (gridOf rows cols sads ≡ worked (λ (bx by : ℕ) (g : Grid). refineMotion (inputsOf width height level cur reference weight) bx by (g .rows) (g .cols)) width height (levelOf level .refined) superblock k (gridOf rows₀ cols₀ sads₀))
 
 abbrev μ-loop : tie.MeasureT-loop
-μ-loop width height level superblock cur reference lambda rows₀ cols₀ sads₀ mv-size count k₀ rows cols sads k = count - k
+μ-loop width height level superblock cur reference weight rows₀ cols₀ sads₀ mv-size count k₀ rows cols sads k = count - k
 
 -- at the loop's head: the function's entry, the size, what a block's result is, and the grid at entry and now
 abbrev entry : tie.At-loop Inv-loop μ-loop → tie.Start Inv-loop μ-loop
@@ -37,7 +37,7 @@ size c = levelOf (entry c .args .level) .refined
 abbrev result : tie.At-loop Inv-loop μ-loop → ℕ → ℕ → Grid → MEStats
 result c =
     let a = entry c .args in
-    λ (bx by : ℕ) (g : Grid). refineMotion (inputsOf (a .width) (a .height) (a .level) (now (a .cur)) (now (a .reference)) (a .lambda)) bx by (g .rows) (g .cols)
+    λ (bx by : ℕ) (g : Grid). refineMotion (inputsOf (a .width) (a .height) (a .level) (now (a .cur)) (now (a .reference)) (a .weight)) bx by (g .rows) (g .cols)
 
 abbrev first : tie.At-loop Inv-loop μ-loop → Grid
 first c = gridOf (now (entry c .args .rows)) (now (entry c .args .cols)) (now (entry c .args .sads))
@@ -94,7 +94,7 @@ refined-count-requires c κs =
 loop-holds : tie.Need-loop-holds Inv-loop μ-loop
 loop-holds c =
     let a = c .before .before .before .before .before .args in
-    (omega arith, sym (worked-none (λ (bx by : ℕ) (g : Grid). refineMotion (inputsOf (a .width) (a .height) (a .level) (now (a .cur)) (now (a .reference)) (a .lambda)) bx by (g .rows) (g .cols)) (a .width) (a .height) (levelOf (a .level) .refined) (a .superblock) (gridOf (now (a .rows)) (now (a .cols)) (now (a .sads)))))
+    (omega arith, sym (worked-none (λ (bx by : ℕ) (g : Grid). refineMotion (inputsOf (a .width) (a .height) (a .level) (now (a .cur)) (now (a .reference)) (a .weight)) bx by (g .rows) (g .cols)) (a .width) (a .height) (levelOf (a .level) .refined) (a .superblock) (gridOf (now (a .rows)) (now (a .cols)) (now (a .sads)))))
 
 block-x-requires : tie.Need-block-x-requires Inv-loop μ-loop
 block-x-requires c κs = (asked c .0, asked c .2, asked c .3)

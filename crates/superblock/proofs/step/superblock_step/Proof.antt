@@ -20,7 +20,7 @@ entry c = c .before .before .before .before .before .before .before
 abbrev inputs : tie.After-windows-ok → Inputs
 inputs c =
     let a = entry c .args in
-    inputsOf (a .width) (a .height) (a .level) (now (a .cur)) (now (a .reference)) (a .lambda)
+    inputsOf (a .width) (a .height) (a .level) (now (a .cur)) (now (a .reference)) (a .weight)
 
 abbrev previous : tie.After-windows-ok → Previous
 previous c =
