@@ -16,7 +16,7 @@ use Rattle.motion.specs.Vector.{zeroV, FitsV, shlV}
 use Rattle.motion.specs.Range.{inRange}
 use Rattle.motion.specs.Level.{levelOf}
 use Rattle.motion.specs.Frame.{Side, Starts, Sized, own4, own3, own2, refined3, refined2}
-use Rattle.motion.specs.Block.{blockOf}
+use Rattle.motion.specs.Block.{blockOf, weighed}
 use Rattle.motion.proofs.BlockLaws.{zero-in-range, shl-fits, some-columns, some-rows}
 use Rattle.motion.proofs.LevelLaws.{each-level}
 use Rattle.grid.specs.Grid.{cells, cellAt}
@@ -25,7 +25,7 @@ use Rattle.sad.specs.declared.rd.MVCandidateRD.{MVCandidateRD}
 use Rattle.sad.specs.Asked.{Measured, Lies}
 use Rattle.sad.specs.Cost.{rdOf, rdAt}
 use Rattle.sad.proofs.Sums.{Under}
-use Rattle.sad.proofs.Contained.{lies}
+use Rattle.sad.proofs.Contained.{lies, weighed-lies}
 use Rattle.sad.proofs.CostLaws.{rd-in, sad-area}
 use Rattle.search.specs.declared.result.MotionSearchResult.{MotionSearchResult}
 use Rattle.search.specs.Result.{CostOf, emptyResult, cheaper, tryOne}
@@ -77,22 +77,23 @@ Saves l b best =
 -- a block of either size at a cell of the frame
 module _ {i : Inputs} (ready : Ready i) {size bx by : ℕ} (sized : Sized (levelOf (i .level)) size) (across : Starts (i .width) size bx) (down : Starts (i .height) size by) where
   -- lies in both planes
-  pub block-lies : Lies (blockOf (i .width) (i .height) (levelOf (i .level)) size bx by) (length (i .cur)) × Lies (blockOf (i .width) (i .height) (levelOf (i .level)) size bx by) (length (i .ref))
+  pub block-lies : Lies (weighed (blockOf (i .width) (i .height) (levelOf (i .level)) size bx by) (i .weight)) (length (i .cur)) × Lies (weighed (blockOf (i .width) (i .height) (levelOf (i .level)) size bx by) (i .weight)) (length (i .ref))
   block-lies =
-      (lies sized (ready .wide) (ready .high) across down (length (i .cur)) (ready .cur), lies sized (ready .wide) (ready .high) across down (length (i .ref)) (ready .ref))
+      let there = lies sized (ready .wide) (ready .high) across down in
+      (weighed-lies (i .weight) (there (length (i .cur)) (ready .cur)), weighed-lies (i .weight) (there (length (i .ref)) (ready .ref)))
 
   -- has the zero vector in range
   pub block-zero : inRange (blockOf (i .width) (i .height) (levelOf (i .level)) size bx by .range) zeroV ≡ true
   block-zero = zero-in-range sized (ready .wide) (ready .high) across down
 
   -- and of a settled record it saves what fits
-  pub block-saves : {l : Level} {b : Block} {best : MotionSearchResult} → l ≡ levelOf (i .level) → b ≡ blockOf (i .width) (i .height) (levelOf (i .level)) size bx by → Under largestSample (i .cur) → Under largestSample (i .ref) → Settled (blockOf (i .width) (i .height) (levelOf (i .level)) size bx by) (i .cur) (i .ref) (i .weight) best → Saves l b best
+  pub block-saves : {l : Level} {b : Block} {best : MotionSearchResult} → l ≡ levelOf (i .level) → b ≡ weighed (blockOf (i .width) (i .height) (levelOf (i .level)) size bx by) (i .weight) → Under largestSample (i .cur) → Under largestSample (i .ref) → Settled (weighed (blockOf (i .width) (i .height) (levelOf (i .level)) size bx by) (i .weight)) (i .cur) (i .ref) best → Saves l b best
   unfolding rdOf
   block-saves {l} {b} {best} e f hc hr s =
-      let here = blockOf (i .width) (i .height) (levelOf (i .level)) size bx by in
+      let here = weighed (blockOf (i .width) (i .height) (levelOf (i .level)) size bx by) (i .weight) in
       let m = block-lies .0 .measured in
-      let own = ap (λ (r : MVCandidateRD). r .sad) (s .own ∙ rd-in here (i .cur) (i .ref) (i .weight) (best .mv) (s .in-range)) in
-      let area = sad-area here (i .cur) (i .ref) (i .weight) (best .mv) hc hr in
+      let own = ap (λ (r : MVCandidateRD). r .sad) (s .own ∙ rd-in here (i .cur) (i .ref) (best .mv) (s .in-range)) in
+      let area = sad-area here (i .cur) (i .ref) (best .mv) hc hr in
       let saves : Saves (levelOf (i .level)) here best = (
         (level-most (i .level) .0, shl-fits sized (ready .wide) (ready .high) across down (best .mv) (s .in-range)),
         (
@@ -121,84 +122,84 @@ honest-one rd best v h = by (ltb (rd v .cost) (best .rd .cost))
     by true = λ less. refl
     by false = h
 
-module _ (b : Block) (cur ref : List ℕ) (weight : ℕ) where
+module _ (b : Block) (cur ref : List ℕ) where
   -- what a list and the searches make of an empty best is in range, if zero is
-  pub loose-mvs : (best : MotionSearchResult) (mvs : List MotionVector) (count : ℕ) → LooseKept b cur ref weight best → LooseKept b cur ref weight (tryMvs (rdAt b cur ref weight) best mvs count)
+  pub loose-mvs : (best : MotionSearchResult) (mvs : List MotionVector) (count : ℕ) → LooseKept b cur ref best → LooseKept b cur ref (tryMvs (rdAt b cur ref) best mvs count)
   unfolding tryMvs
-  loose-mvs best mvs count k = loose-each b cur ref weight best count (λ j. getD mvs j zeroV) k
+  loose-mvs best mvs count k = loose-each b cur ref best count (λ j. getD mvs j zeroV) k
 
-  least-mvs : (best : MotionSearchResult) (mvs : List MotionVector) (count : ℕ) → tryMvs (rdAt b cur ref weight) best mvs count .rd .cost ≤ best .rd .cost
+  least-mvs : (best : MotionSearchResult) (mvs : List MotionVector) (count : ℕ) → tryMvs (rdAt b cur ref) best mvs count .rd .cost ≤ best .rd .cost
   unfolding tryMvs
-  least-mvs best mvs count = least-each (rdAt b cur ref weight) best count (λ j. getD mvs j zeroV)
+  least-mvs best mvs count = least-each (rdAt b cur ref) best count (λ j. getD mvs j zeroV)
 
   module _ (zero-in : inRange (b .range) zeroV ≡ true) where
-    pub loose-cands : (mvs : List MotionVector) (count : ℕ) → LooseKept b cur ref weight (tryCands (rdAt b cur ref weight) mvs count)
+    pub loose-cands : (mvs : List MotionVector) (count : ℕ) → LooseKept b cur ref (tryCands (rdAt b cur ref) mvs count)
     unfolding tryCands
     loose-cands mvs count =
-        loose-diamond b cur ref weight (tryMvs (rdAt b cur ref weight) emptyResult mvs count) (loose-mvs emptyResult mvs count (loose-empty b cur ref weight zero-in))
+        loose-diamond b cur ref (tryMvs (rdAt b cur ref) emptyResult mvs count) (loose-mvs emptyResult mvs count (loose-empty b cur ref zero-in))
 
     -- levels 3 and 2: the centre, then B, then C
-    pub loose-centre : (p : MotionEstimationSubsets) → LooseKept b cur ref weight (tryOne (rdAt b cur ref weight) emptyResult (p .center))
-    loose-centre p = loose-one b cur ref weight emptyResult (p .center) (loose-empty b cur ref weight zero-in)
+    pub loose-centre : (p : MotionEstimationSubsets) → LooseKept b cur ref (tryOne (rdAt b cur ref) emptyResult (p .center))
+    loose-centre p = loose-one b cur ref emptyResult (p .center) (loose-empty b cur ref zero-in)
 
-    pub loose-near : (p : MotionEstimationSubsets) → LooseKept b cur ref weight (tryMvs (rdAt b cur ref weight) (tryOne (rdAt b cur ref weight) emptyResult (p .center)) (p .«subset_b») (p .«b_count»))
-    loose-near p = loose-mvs (tryOne (rdAt b cur ref weight) emptyResult (p .center)) (p .«subset_b») (p .«b_count») (loose-centre p)
+    pub loose-near : (p : MotionEstimationSubsets) → LooseKept b cur ref (tryMvs (rdAt b cur ref) (tryOne (rdAt b cur ref) emptyResult (p .center)) (p .«subset_b») (p .«b_count»))
+    loose-near p = loose-mvs (tryOne (rdAt b cur ref) emptyResult (p .center)) (p .«subset_b») (p .«b_count») (loose-centre p)
 
-    pub loose-short : (p : MotionEstimationSubsets) → LooseKept b cur ref weight (tryMvs (rdAt b cur ref weight) (tryMvs (rdAt b cur ref weight) (tryOne (rdAt b cur ref weight) emptyResult (p .center)) (p .«subset_b») (p .«b_count»)) (p .«subset_c») (p .«c_count»))
+    pub loose-short : (p : MotionEstimationSubsets) → LooseKept b cur ref (tryMvs (rdAt b cur ref) (tryMvs (rdAt b cur ref) (tryOne (rdAt b cur ref) emptyResult (p .center)) (p .«subset_b») (p .«b_count»)) (p .«subset_c») (p .«c_count»))
     loose-short p =
-        let rd = rdAt b cur ref weight in
+        let rd = rdAt b cur ref in
         loose-mvs (tryMvs rd (tryOne rd emptyResult (p .center)) (p .«subset_b») (p .«b_count»)) (p .«subset_c») (p .«c_count») (loose-near p)
 
     -- level 4, before uneven multi-hexagon
-    pub loose-extensive : (p : MotionEstimationSubsets) → LooseKept b cur ref weight (cheaper (tryCands (rdAt b cur ref weight) (p .«subset_b») (p .«b_count»)) (tryCands (rdAt b cur ref weight) (p .«subset_c») (p .«c_count»)))
+    pub loose-extensive : (p : MotionEstimationSubsets) → LooseKept b cur ref (cheaper (tryCands (rdAt b cur ref) (p .«subset_b») (p .«b_count»)) (tryCands (rdAt b cur ref) (p .«subset_c») (p .«c_count»)))
     loose-extensive p =
-        let rd = rdAt b cur ref weight in
-        loose-cheaper b cur ref weight (tryCands rd (p .«subset_b») (p .«b_count»)) (tryCands rd (p .«subset_c») (p .«c_count»))
+        let rd = rdAt b cur ref in
+        loose-cheaper b cur ref (tryCands rd (p .«subset_b») (p .«b_count»)) (tryCands rd (p .«subset_c») (p .«c_count»))
         (loose-cands (p .«subset_b») (p .«b_count»)) (loose-cands (p .«subset_c») (p .«c_count»))
 
-    module _ (m : Measured b) (hc : Under largestSample cur) (hr : Under largestSample ref) (hw : weight < 2 ^ 32) (p : MotionEstimationSubsets) (s : Sound p) where
+    module _ (m : Measured b) (hc : Under largestSample cur) (hr : Under largestSample ref) (hw : b .weight < 2 ^ 32) (p : MotionEstimationSubsets) (s : Sound p) where
       -- B holds the zero vector
-      zero-tried : (best : MotionSearchResult) → tryMvs (rdAt b cur ref weight) best (p .«subset_b») (p .«b_count») .rd .cost ≤ rdAt b cur ref weight zeroV .cost
+      zero-tried : (best : MotionSearchResult) → tryMvs (rdAt b cur ref) best (p .«subset_b») (p .«b_count») .rd .cost ≤ rdAt b cur ref zeroV .cost
       unfolding tryMvs
       zero-tried best =
-          let rd = rdAt b cur ref weight in
+          let rd = rdAt b cur ref in
           let vs : ℕ → MotionVector = λ j. getD (p .«subset_b») j zeroV in
           subst (λ (v : MotionVector). tryMvs rd best (p .«subset_b») (p .«b_count») .rd .cost ≤ rd v .cost) (s .zero-there) (least-tried rd best (p .«b_count») vs (s .zero-at) (s .zero-below))
 
-      below-zero : {best : MotionSearchResult} → LooseKept b cur ref weight best → best .rd .cost ≤ rdAt b cur ref weight zeroV .cost → Settled b cur ref weight best
-      below-zero k below = settled b cur ref weight m hc hr hw k zeroV zero-in below
+      below-zero : {best : MotionSearchResult} → LooseKept b cur ref best → best .rd .cost ≤ rdAt b cur ref zeroV .cost → Settled b cur ref best
+      below-zero k below = settled b cur ref m hc hr hw k zeroV zero-in below
 
-      short-settled : Settled b cur ref weight (shortSearch (rdAt b cur ref weight) p)
+      short-settled : Settled b cur ref (shortSearch (rdAt b cur ref) p)
       unfolding shortSearch
       short-settled =
-          let rd = rdAt b cur ref weight in
+          let rd = rdAt b cur ref in
           let first = tryOne rd emptyResult (p .center) in
           let near = tryMvs rd first (p .«subset_b») (p .«b_count») in
           let last = tryMvs rd near (p .«subset_c») (p .«c_count») in
-          below-zero (loose-diamond b cur ref weight last (loose-short p))
+          below-zero (loose-diamond b cur ref last (loose-short p))
           (le-trans (least-diamond rd last) (le-trans (least-mvs near (p .«subset_c») (p .«c_count»)) (zero-tried first)))
 
-      cands-below : tryCands (rdAt b cur ref weight) (p .«subset_b») (p .«b_count») .rd .cost ≤ rdAt b cur ref weight zeroV .cost
+      cands-below : tryCands (rdAt b cur ref) (p .«subset_b») (p .«b_count») .rd .cost ≤ rdAt b cur ref zeroV .cost
       unfolding tryCands
-      cands-below = le-trans (least-diamond (rdAt b cur ref weight) (tryMvs (rdAt b cur ref weight) emptyResult (p .«subset_b») (p .«b_count»))) (zero-tried emptyResult)
+      cands-below = le-trans (least-diamond (rdAt b cur ref) (tryMvs (rdAt b cur ref) emptyResult (p .«subset_b») (p .«b_count»))) (zero-tried emptyResult)
 
-      either : {x y : MotionSearchResult} (t : Bool) → Settled b cur ref weight x → Settled b cur ref weight y → Settled b cur ref weight (cond t x y)
+      either : {x y : MotionSearchResult} (t : Bool) → Settled b cur ref x → Settled b cur ref y → Settled b cur ref (cond t x y)
       either true sx sy = sx
       either false sx sy = sy
 
-      extensive-settled : Settled b cur ref weight (extensiveSearch (rdAt b cur ref weight) p)
+      extensive-settled : Settled b cur ref (extensiveSearch (rdAt b cur ref) p)
       unfolding extensiveSearch
       extensive-settled =
-          let rd = rdAt b cur ref weight in
+          let rd = rdAt b cur ref in
           let near = tryCands rd (p .«subset_b») (p .«b_count») in
           let far = tryCands rd (p .«subset_c») (p .«c_count») in
           let kept = cheaper near far in
           let below = le-trans (least-cheaper near far) cands-below in
           either (ltb (near .rd .sad) (p .threshold)) (below-zero (loose-cands (p .«subset_b») (p .«b_count»)) cands-below)
           (either (ltb (kept .rd .sad) (p .threshold)) (below-zero (loose-extensive p) below)
-          (below-zero (loose-multi b cur ref weight kept (loose-extensive p)) (le-trans (least-multi rd kept) below)))
+          (below-zero (loose-multi b cur ref kept (loose-extensive p)) (le-trans (least-multi rd kept) below)))
 
       -- at every level a search hands back a vector in range, with its own SAD and cost
-      pub fullPixelMe-settled : (level : ℕ) → Settled b cur ref weight (fullPixelMe (rdAt b cur ref weight) level p)
+      pub fullPixelMe-settled : (level : ℕ) → Settled b cur ref (fullPixelMe (rdAt b cur ref) level p)
       unfolding fullPixelMe
       fullPixelMe-settled level = either (eqb level 4) extensive-settled short-settled

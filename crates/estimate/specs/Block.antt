@@ -9,7 +9,7 @@ use Rattle.motion.specs.declared.vector.MotionVector.{MotionVector}
 use Rattle.motion.specs.declared.block.Block.{Block}
 use Rattle.motion.specs.Vector.{zeroV, shlV}
 use Rattle.motion.specs.Level.{levelOf}
-use Rattle.motion.specs.Block.{blockOf}
+use Rattle.motion.specs.Block.{blockOf, weighed}
 use Rattle.grid.specs.declared.cells.MEStats.{MEStats}
 use Rattle.grid.specs.Grid.{Grid, cellAt, storedAt}
 use Rattle.grid.specs.Previous.{Previous}
@@ -27,11 +27,11 @@ use Rattle.estimate.specs.Inputs.{Inputs}
 
 -- the block of a size at a cell
 unfoldable pub blockIn : (i : Inputs) (size bx by : ℕ) → Block
-blockIn i size bx by = blockOf (i .width) (i .height) (levelOf (i .level)) size bx by
+blockIn i size bx by = weighed (blockOf (i .width) (i .height) (levelOf (i .level)) size bx by) (i .weight)
 
 -- what each vector costs a block
 unfoldable pub costIn : Inputs → Block → CostOf
-costIn i b = rdAt b (i .cur) (i .ref) (i .weight)
+costIn i b = rdAt b (i .cur) (i .ref)
 
 -- the vectors of a list, in turn
 unfoldable pub tryMvs : (rd : CostOf) (best : MotionSearchResult) (mvs : List MotionVector) (count : ℕ) → MotionSearchResult

@@ -3,6 +3,9 @@ use mathlib.Core.Bool.{cond}
 use mathlib.Core.List.{List}
 use Prim.Native.Nat.{ℕ}
 use lib.Dec.{eqb}
+use Rattle.grid.specs.Grid.{Grid}
+use Rattle.grid.specs.Previous.{Previous, previousOf}
+use Rattle.estimate.specs.declared.step.Frame.{Frame}
 
 -- the frame, the level, the current and the reference plane of that level, and the weight
 pub record Inputs : Type 0 where
@@ -16,6 +19,13 @@ pub record Inputs : Type 0 where
 abbrev pub inputsOf : (width height level : ℕ) (cur ref : List ℕ) (weight : ℕ) → Inputs
 inputsOf width height level cur ref weight =
     record { width = width; height = height; level = level; cur = cur; ref = ref; weight = weight }
+
+-- what a level of a run works with, and a previous grid in it
+abbrev pub inputsIn : Frame → ℕ → List ℕ → List ℕ → Inputs
+inputsIn f level cur ref = inputsOf (f .width) (f .height) level cur ref (f .weight)
+
+abbrev pub previousIn : Frame → Grid → Previous
+previousIn f prev = previousOf (f .present) prev
 
 -- six planes are lent: current and reference at full, half and quarter size
 pub record Planes : Type 0 where

@@ -1,3 +1,4 @@
+use crate::step::Step;
 use grid::cells::MEStats;
 use grid::cells::cell_at;
 use grid::cells::stored_at;
@@ -23,13 +24,13 @@ ghost use Rattle.motion.specs.Range.{inRange};
 ghost use Rattle.motion.specs.Level.{levelOf};
 ghost use Rattle.motion.specs.Frame.{Side, Starts};
 ghost use Rattle.grid.specs.Grid.{Held, cells, cellAt, gridOf};
-ghost use Rattle.grid.specs.Previous.{HeldIf, previousOf};
+ghost use Rattle.grid.specs.Previous.{HeldIf};
 ghost use Rattle.sad.specs.Asked.{Lies};
 ghost use Rattle.sad.specs.Cost.{rdAt};
 ghost use Rattle.points.specs.Window.{windowOk};
 ghost use Rattle.search.specs.Result.{tryOne};
 ghost use Rattle.sampled.specs.Slots.{slots};
-ghost use Rattle.estimate.specs.Inputs.{inputsOf};
+ghost use Rattle.estimate.specs.Inputs.{inputsIn, previousIn};
 ghost use Rattle.estimate.specs.Asked.{Ready, Leveled, Listed, Honest};
 ghost use Rattle.estimate.specs.Block.{tryMvs, shortSearch, tryCands, extensiveSearch, fullPixelMe, statsOf, estimateMotion, firstStored, windowAt, refineMotion};
 
@@ -38,13 +39,12 @@ fn try_unless_best(
     b: Block,
     cur: &[u8],
     reference: &[u8],
-    weight: u32,
     best: MotionSearchResult,
     mv: MotionVector,
 ) -> MotionSearchResult
     requires { ⌜ Lies b (length (now cur)) × Lies b (length (now reference)) ⌝ }
-    requires { ⌜ Honest (rdAt b (now cur) (now reference) weight) best ⌝ }
-    ensures { λ r. ⌜ r ≡ tryOne (rdAt b (now (cur .entry)) (now (reference .entry)) weight) best mv ⌝ }
+    requires { ⌜ Honest (rdAt b (now cur) (now reference)) best ⌝ }
+    ensures { λ r. ⌜ r ≡ tryOne (rdAt b (now (cur .entry)) (now (reference .entry))) best mv ⌝ }
 {
     if best.mv.row == mv.row {
         if best.mv.col == mv.col {
@@ -53,7 +53,7 @@ fn try_unless_best(
             }
         }
     }
-    best.try_mv(b, cur, reference, weight, mv)
+    best.try_mv(b, cur, reference, mv)
 }
 
 // Tries the vectors of a list, in turn.
@@ -61,19 +61,18 @@ fn try_mvs(
     b: Block,
     cur: &[u8],
     reference: &[u8],
-    weight: u32,
     current: MotionSearchResult,
     mvs: [MotionVector; 5],
     count: usize,
 ) -> MotionSearchResult
     requires { ⌜ Lies b (length (now cur)) × Lies b (length (now reference)) ⌝ }
-    requires { ⌜ (count ≤ slots) × (length mvs ≡ slots) × Honest (rdAt b (now cur) (now reference) weight) current ⌝ }
-    ensures { λ r. ⌜ r ≡ tryMvs (rdAt b (now (cur .entry)) (now (reference .entry)) weight) current mvs count ⌝ }
+    requires { ⌜ (count ≤ slots) × (length mvs ≡ slots) × Honest (rdAt b (now cur) (now reference)) current ⌝ }
+    ensures { λ r. ⌜ r ≡ tryMvs (rdAt b (now (cur .entry)) (now (reference .entry))) current mvs count ⌝ }
 {
     let mut best = current;
     let mut k = 0;
     while k < count {
-        best = try_unless_best(b, cur, reference, weight, best, mvs[k]);
+        best = try_unless_best(b, cur, reference, best, mvs[k]);
         k += 1;
     }
     best
@@ -84,17 +83,16 @@ fn try_cands(
     b: Block,
     cur: &[u8],
     reference: &[u8],
-    weight: u32,
     mvs: [MotionVector; 5],
     count: usize,
 ) -> MotionSearchResult
     requires { ⌜ Lies b (length (now cur)) × Lies b (length (now reference)) ⌝ }
     requires { ⌜ (count ≤ slots) × (length mvs ≡ slots) × (inRange (b .range) zeroV ≡ true) ⌝ }
-    ensures { λ r. ⌜ r ≡ tryCands (rdAt b (now (cur .entry)) (now (reference .entry)) weight) mvs count ⌝ }
+    ensures { λ r. ⌜ r ≡ tryCands (rdAt b (now (cur .entry)) (now (reference .entry))) mvs count ⌝ }
 {
     let empty = MotionSearchResult::empty();
-    let best = try_mvs(b, cur, reference, weight, empty, mvs, count);
-    fullpel_diamond_search(b, cur, reference, weight, best)
+    let best = try_mvs(b, cur, reference, empty, mvs, count);
+    fullpel_diamond_search(b, cur, reference, best)
 }
 
 // Levels 3 and 2: the cheapest predictor, and diamond.
@@ -102,20 +100,19 @@ fn short_search(
     b: Block,
     cur: &[u8],
     reference: &[u8],
-    weight: u32,
     p: MotionEstimationSubsets,
 ) -> MotionSearchResult
     requires { ⌜ Lies b (length (now cur)) × Lies b (length (now reference)) ⌝ }
     requires { ⌜ Listed p × (inRange (b .range) zeroV ≡ true) ⌝ }
-    ensures { λ r. ⌜ r ≡ shortSearch (rdAt b (now (cur .entry)) (now (reference .entry)) weight) p ⌝ }
+    ensures { λ r. ⌜ r ≡ shortSearch (rdAt b (now (cur .entry)) (now (reference .entry))) p ⌝ }
 {
     let empty = MotionSearchResult::empty();
     let subset_b = p.subset_b;
     let subset_c = p.subset_c;
-    let middle = empty.try_mv(b, cur, reference, weight, p.center);
-    let near = try_mvs(b, cur, reference, weight, middle, subset_b, p.b_count);
-    let best = try_mvs(b, cur, reference, weight, near, subset_c, p.c_count);
-    fullpel_diamond_search(b, cur, reference, weight, best)
+    let middle = empty.try_mv(b, cur, reference, p.center);
+    let near = try_mvs(b, cur, reference, middle, subset_b, p.b_count);
+    let best = try_mvs(b, cur, reference, near, subset_c, p.c_count);
+    fullpel_diamond_search(b, cur, reference, best)
 }
 
 // Level 4: stops below the threshold.
@@ -123,43 +120,41 @@ fn extensive_search(
     b: Block,
     cur: &[u8],
     reference: &[u8],
-    weight: u32,
     p: MotionEstimationSubsets,
 ) -> MotionSearchResult
     requires { ⌜ Lies b (length (now cur)) × Lies b (length (now reference)) ⌝ }
     requires { ⌜ Listed p × (inRange (b .range) zeroV ≡ true) ⌝ }
-    ensures { λ r. ⌜ r ≡ extensiveSearch (rdAt b (now (cur .entry)) (now (reference .entry)) weight) p ⌝ }
+    ensures { λ r. ⌜ r ≡ extensiveSearch (rdAt b (now (cur .entry)) (now (reference .entry))) p ⌝ }
 {
     let subset_b = p.subset_b;
     let subset_c = p.subset_c;
-    let near = try_cands(b, cur, reference, weight, subset_b, p.b_count);
+    let near = try_cands(b, cur, reference, subset_b, p.b_count);
     if near.rd.sad < p.threshold {
         return near;
     }
-    let before = try_cands(b, cur, reference, weight, subset_c, p.c_count);
+    let before = try_cands(b, cur, reference, subset_c, p.c_count);
     let best = near.or_cheaper(before);
     if best.rd.sad < p.threshold {
         return best;
     }
-    uneven_multi_hex_search(b, cur, reference, weight, best)
+    uneven_multi_hex_search(b, cur, reference, best)
 }
 
 fn full_pixel_me(
     b: Block,
     cur: &[u8],
     reference: &[u8],
-    weight: u32,
     level: usize,
     p: MotionEstimationSubsets,
 ) -> MotionSearchResult
     requires { ⌜ Lies b (length (now cur)) × Lies b (length (now reference)) ⌝ }
     requires { ⌜ Listed p × (inRange (b .range) zeroV ≡ true) ⌝ }
-    ensures { λ r. ⌜ r ≡ fullPixelMe (rdAt b (now (cur .entry)) (now (reference .entry)) weight) level p ⌝ }
+    ensures { λ r. ⌜ r ≡ fullPixelMe (rdAt b (now (cur .entry)) (now (reference .entry))) level p ⌝ }
 {
     if level == 4 {
-        return extensive_search(b, cur, reference, weight, p);
+        return extensive_search(b, cur, reference, p);
     }
-    short_search(b, cur, reference, weight, p)
+    short_search(b, cur, reference, p)
 }
 
 // What is saved of a result: its vector at full size, its SAD as that of a block of 128 by 128.
@@ -178,15 +173,11 @@ fn stats_of(ssdec: u32, w: usize, h: usize, best: MotionSearchResult) -> MEStats
 
 // The search of a block from its predictors.
 pub fn estimate_motion(
-    width: usize,
-    height: usize,
-    level: usize,
+    s: Step,
     bx: usize,
     by: usize,
     cur: &[u8],
     reference: &[u8],
-    weight: u32,
-    present: bool,
     prev_rows: &[i16],
     prev_cols: &[i16],
     prev_sads: &[u32],
@@ -194,21 +185,23 @@ pub fn estimate_motion(
     cols: &[i16],
     sads: &[u32],
 ) -> MEStats
-    requires { ⌜ Ready (inputsOf width height level (now cur) (now reference) weight) ⌝ }
-    requires { ⌜ HeldIf width height (previousOf present (gridOf (now «prev_rows») (now «prev_cols») (now «prev_sads»))) ⌝ }
-    requires { ⌜ Starts width (levelOf level .«mv_size») bx × Starts height (levelOf level .«mv_size») by ⌝ }
-    requires { ⌜ Held width height (gridOf (now rows) (now cols) (now sads)) ⌝ }
-    ensures { λ r. ⌜ r ≡ estimateMotion (inputsOf width height level (now (cur .entry)) (now (reference .entry)) weight) (previousOf present (gridOf (now («prev_rows» .entry)) (now («prev_cols» .entry)) (now («prev_sads» .entry)))) bx by (gridOf (now (rows .entry)) (now (cols .entry)) (now (sads .entry))) ⌝ }
+    requires { ⌜ Ready (inputsIn (s .frame) (s .level) (now cur) (now reference)) ⌝ }
+    requires { ⌜ HeldIf (s .frame .width) (s .frame .height) (previousIn (s .frame) (gridOf (now «prev_rows») (now «prev_cols») (now «prev_sads»))) ⌝ }
+    requires { ⌜ Starts (s .frame .width) (levelOf (s .level) .«mv_size») bx × Starts (s .frame .height) (levelOf (s .level) .«mv_size») by ⌝ }
+    requires { ⌜ Held (s .frame .width) (s .frame .height) (gridOf (now rows) (now cols) (now sads)) ⌝ }
+    ensures { λ r. ⌜ r ≡ estimateMotion (inputsIn (s .frame) (s .level) (now (cur .entry)) (now (reference .entry))) (previousIn (s .frame) (gridOf (now («prev_rows» .entry)) (now («prev_cols» .entry)) (now («prev_sads» .entry)))) bx by (gridOf (now (rows .entry)) (now (cols .entry)) (now (sads .entry))) ⌝ }
 {
-    let row = level_of(level);
-    let b = block_of(width, height, row, row.mv_size, bx, by);
+    let width = s.frame.width;
+    let height = s.frame.height;
+    let row = level_of(s.level);
+    let b = block_of(width, height, row, row.mv_size, bx, by).weighed(s.frame.weight);
     let p = get_subset_predictors(
         width,
         height,
-        level,
+        s.level,
         bx,
         by,
-        present,
+        s.frame.present,
         prev_rows,
         prev_cols,
         prev_sads,
@@ -216,7 +209,7 @@ pub fn estimate_motion(
         cols,
         sads,
     );
-    let best = full_pixel_me(b, cur, reference, weight, level, p);
+    let best = full_pixel_me(b, cur, reference, s.level, p);
     stats_of(row.ssdec, b.w, b.h, best)
 }
 
@@ -230,49 +223,40 @@ fn first_stored(width: usize, bx: usize, by: usize, rows: &[i16], cols: &[i16]) 
 }
 
 // The window of a block's refinement, round the vector stored in its first cell.
-pub fn window_at(
-    width: usize,
-    height: usize,
-    level: usize,
-    bx: usize,
-    by: usize,
-    rows: &[i16],
-    cols: &[i16],
-) -> Window
-    requires { ⌜ Side width × Side height × Leveled level ⌝ }
-    requires { ⌜ Starts width (levelOf level .refined) bx × Starts height (levelOf level .refined) by ⌝ }
-    requires { ⌜ (cells width height ≤ length (now rows)) × (cells width height ≤ length (now cols)) ⌝ }
-    ensures { λ r. ⌜ r ≡ windowAt width height level bx by (now (rows .entry)) (now (cols .entry)) ⌝ }
+pub fn window_at(s: Step, bx: usize, by: usize, rows: &[i16], cols: &[i16]) -> Window
+    requires { ⌜ Side (s .frame .width) × Side (s .frame .height) × Leveled (s .level) ⌝ }
+    requires { ⌜ Starts (s .frame .width) (levelOf (s .level) .refined) bx × Starts (s .frame .height) (levelOf (s .level) .refined) by ⌝ }
+    requires { ⌜ (cells (s .frame .width) (s .frame .height) ≤ length (now rows)) × (cells (s .frame .width) (s .frame .height) ≤ length (now cols)) ⌝ }
+    ensures { λ r. ⌜ r ≡ windowAt (s .frame .width) (s .frame .height) (s .level) bx by (now (rows .entry)) (now (cols .entry)) ⌝ }
 {
-    let row = level_of(level);
-    let b = block_of(width, height, row, row.refined, bx, by);
+    let width = s.frame.width;
+    let row = level_of(s.level);
+    let b = block_of(width, s.frame.height, row, row.refined, bx, by);
     let stored = first_stored(width, bx, by, rows, cols);
     refine_window(b.range, stored, row.ssdec)
 }
 
 // The refinement of a block, whose window is not empty.
 pub fn refine_motion(
-    width: usize,
-    height: usize,
-    level: usize,
+    s: Step,
     bx: usize,
     by: usize,
     cur: &[u8],
     reference: &[u8],
-    weight: u32,
     rows: &[i16],
     cols: &[i16],
 ) -> MEStats
-    requires { ⌜ Ready (inputsOf width height level (now cur) (now reference) weight) ⌝ }
-    requires { ⌜ Starts width (levelOf level .refined) bx × Starts height (levelOf level .refined) by ⌝ }
-    requires { ⌜ (cells width height ≤ length (now rows)) × (cells width height ≤ length (now cols)) ⌝ }
-    requires { ⌜ windowOk (windowAt width height level bx by (now rows) (now cols)) ≡ true ⌝ }
-    ensures { λ r. ⌜ r ≡ refineMotion (inputsOf width height level (now (cur .entry)) (now (reference .entry)) weight) bx by (now (rows .entry)) (now (cols .entry)) ⌝ }
+    requires { ⌜ Ready (inputsIn (s .frame) (s .level) (now cur) (now reference)) ⌝ }
+    requires { ⌜ Starts (s .frame .width) (levelOf (s .level) .refined) bx × Starts (s .frame .height) (levelOf (s .level) .refined) by ⌝ }
+    requires { ⌜ (cells (s .frame .width) (s .frame .height) ≤ length (now rows)) × (cells (s .frame .width) (s .frame .height) ≤ length (now cols)) ⌝ }
+    requires { ⌜ windowOk (windowAt (s .frame .width) (s .frame .height) (s .level) bx by (now rows) (now cols)) ≡ true ⌝ }
+    ensures { λ r. ⌜ r ≡ refineMotion (inputsIn (s .frame) (s .level) (now (cur .entry)) (now (reference .entry))) bx by (now (rows .entry)) (now (cols .entry)) ⌝ }
 {
-    let row = level_of(level);
-    let b = block_of(width, height, row, row.refined, bx, by);
+    let width = s.frame.width;
+    let row = level_of(s.level);
+    let b = block_of(width, s.frame.height, row, row.refined, bx, by).weighed(s.frame.weight);
     let stored = first_stored(width, bx, by, rows, cols);
     let window = refine_window(b.range, stored, row.ssdec);
-    let best = full_search(b, cur, reference, weight, window);
+    let best = full_search(b, cur, reference, window);
     stats_of(row.ssdec, b.w, b.h, best)
 }

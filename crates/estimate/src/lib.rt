@@ -1,2 +1,3 @@
-// The search and the refinement of one block.
+// The search and the refinement of one block, and what a step and a run work with.
 pub mod block;
+pub mod step;

@@ -1,3 +1,5 @@
+use estimate::step::Frame;
+use estimate::step::Step;
 use superblock::step::superblock_step;
 ghost use mathlib.Core.Path.{_≡_};
 ghost use Prim.Native.Nat.{ℕ, _<_};
@@ -5,20 +7,17 @@ ghost use lib.ListN.{length, getD};
 ghost use Rattle.motion.specs.Frame.{Side};
 ghost use Rattle.motion.specs.Superblock.{superblocks};
 ghost use Rattle.grid.specs.Grid.{Held, gridOf};
-ghost use Rattle.grid.specs.Previous.{HeldIf, previousOf};
-ghost use Rattle.estimate.specs.Inputs.{inputsOf, planesOf};
+ghost use Rattle.grid.specs.Previous.{HeldIf};
+ghost use Rattle.estimate.specs.Inputs.{inputsIn, previousIn, planesOf};
 ghost use Rattle.estimate.specs.Asked.{Ready, PlaneHeld};
 ghost use Rattle.frame.specs.Run.{levelRun, frameRun};
 
 // Every superblock of a list at one level, in list order.
 fn level_run(
-    width: usize,
-    height: usize,
+    frame: Frame,
     level: usize,
     cur: &[u8],
     reference: &[u8],
-    weight: u32,
-    present: bool,
     prev_rows: &[i16],
     prev_cols: &[i16],
     prev_sads: &[u32],
@@ -27,24 +26,24 @@ fn level_run(
     cols: &mut [i16],
     sads: &mut [u32],
 )
-    requires { ⌜ Ready (inputsOf width height level (now cur) (now reference) weight) ⌝ }
-    requires { ⌜ HeldIf width height (previousOf present (gridOf (now «prev_rows») (now «prev_cols») (now «prev_sads»))) ⌝ }
-    requires { ⌜ Held width height (gridOf (now rows) (now cols) (now sads)) ⌝ }
-    requires { ⌜ ((k : ℕ) → k < length (now list) → getD (now list) k 0 < superblocks width height) ⌝ }
-    ensures { λ r. ⌜ gridOf (now (rows .exit)) (now (cols .exit)) (now (sads .exit)) ≡ levelRun (inputsOf width height level (now (cur .entry)) (now (reference .entry)) weight) (previousOf present (gridOf (now («prev_rows» .entry)) (now («prev_cols» .entry)) (now («prev_sads» .entry)))) (now (list .entry)) (gridOf (now (rows .entry)) (now (cols .entry)) (now (sads .entry))) ⌝ }
+    requires { ⌜ Ready (inputsIn frame level (now cur) (now reference)) ⌝ }
+    requires { ⌜ HeldIf (frame .width) (frame .height) (previousIn frame (gridOf (now «prev_rows») (now «prev_cols») (now «prev_sads»))) ⌝ }
+    requires { ⌜ Held (frame .width) (frame .height) (gridOf (now rows) (now cols) (now sads)) ⌝ }
+    requires { ⌜ ((k : ℕ) → k < length (now list) → getD (now list) k 0 < superblocks (frame .width) (frame .height)) ⌝ }
+    ensures { λ r. ⌜ gridOf (now (rows .exit)) (now (cols .exit)) (now (sads .exit)) ≡ levelRun (inputsIn frame level (now (cur .entry)) (now (reference .entry))) (previousIn frame (gridOf (now («prev_rows» .entry)) (now («prev_cols» .entry)) (now («prev_sads» .entry)))) (now (list .entry)) (gridOf (now (rows .entry)) (now (cols .entry)) (now (sads .entry))) ⌝ }
 {
     let mut k = 0;
     while k < list.len() {
         let superblock = list[k] as usize;
-        superblock_step(
-            width,
-            height,
+        let s = Step {
+            frame,
             level,
             superblock,
+        };
+        superblock_step(
+            s,
             cur,
             reference,
-            weight,
-            present,
             prev_rows,
             prev_cols,
             prev_sads,
@@ -58,16 +57,13 @@ fn level_run(
 
 // Levels 4, 3 and 2, each in list order.
 pub fn frame_run(
-    width: usize,
-    height: usize,
+    frame: Frame,
     cur: &[u8],
     cur_half: &[u8],
     cur_quarter: &[u8],
     reference: &[u8],
     ref_half: &[u8],
     ref_quarter: &[u8],
-    weight: u32,
-    present: bool,
     prev_rows: &[i16],
     prev_cols: &[i16],
     prev_sads: &[u32],
@@ -76,21 +72,18 @@ pub fn frame_run(
     cols: &mut [i16],
     sads: &mut [u32],
 )
-    requires { ⌜ Side width × Side height × PlaneHeld width height 2 (now cur) × PlaneHeld width height 3 (now «cur_half») × PlaneHeld width height 4 (now «cur_quarter») ⌝ }
-    requires { ⌜ PlaneHeld width height 2 (now reference) × PlaneHeld width height 3 (now «ref_half») × PlaneHeld width height 4 (now «ref_quarter») ⌝ }
-    requires { ⌜ HeldIf width height (previousOf present (gridOf (now «prev_rows») (now «prev_cols») (now «prev_sads»))) ⌝ }
-    requires { ⌜ Held width height (gridOf (now rows) (now cols) (now sads)) ⌝ }
-    requires { ⌜ ((k : ℕ) → k < length (now list) → getD (now list) k 0 < superblocks width height) ⌝ }
-    ensures { λ r. ⌜ gridOf (now (rows .exit)) (now (cols .exit)) (now (sads .exit)) ≡ frameRun width height (planesOf (now (cur .entry)) (now («cur_half» .entry)) (now («cur_quarter» .entry))) (planesOf (now (reference .entry)) (now («ref_half» .entry)) (now («ref_quarter» .entry))) weight (previousOf present (gridOf (now («prev_rows» .entry)) (now («prev_cols» .entry)) (now («prev_sads» .entry)))) (now (list .entry)) (gridOf (now (rows .entry)) (now (cols .entry)) (now (sads .entry))) ⌝ }
+    requires { ⌜ Side (frame .width) × Side (frame .height) × PlaneHeld (frame .width) (frame .height) 2 (now cur) × PlaneHeld (frame .width) (frame .height) 3 (now «cur_half») × PlaneHeld (frame .width) (frame .height) 4 (now «cur_quarter») ⌝ }
+    requires { ⌜ PlaneHeld (frame .width) (frame .height) 2 (now reference) × PlaneHeld (frame .width) (frame .height) 3 (now «ref_half») × PlaneHeld (frame .width) (frame .height) 4 (now «ref_quarter») ⌝ }
+    requires { ⌜ HeldIf (frame .width) (frame .height) (previousIn frame (gridOf (now «prev_rows») (now «prev_cols») (now «prev_sads»))) ⌝ }
+    requires { ⌜ Held (frame .width) (frame .height) (gridOf (now rows) (now cols) (now sads)) ⌝ }
+    requires { ⌜ ((k : ℕ) → k < length (now list) → getD (now list) k 0 < superblocks (frame .width) (frame .height)) ⌝ }
+    ensures { λ r. ⌜ gridOf (now (rows .exit)) (now (cols .exit)) (now (sads .exit)) ≡ frameRun (frame .width) (frame .height) (planesOf (now (cur .entry)) (now («cur_half» .entry)) (now («cur_quarter» .entry))) (planesOf (now (reference .entry)) (now («ref_half» .entry)) (now («ref_quarter» .entry))) (frame .weight) (previousIn frame (gridOf (now («prev_rows» .entry)) (now («prev_cols» .entry)) (now («prev_sads» .entry)))) (now (list .entry)) (gridOf (now (rows .entry)) (now (cols .entry)) (now (sads .entry))) ⌝ }
 {
     level_run(
-        width,
-        height,
+        frame,
         4,
         cur_quarter,
         ref_quarter,
-        weight,
-        present,
         prev_rows,
         prev_cols,
         prev_sads,
@@ -100,13 +93,10 @@ pub fn frame_run(
         sads,
     );
     level_run(
-        width,
-        height,
+        frame,
         3,
         cur_half,
         ref_half,
-        weight,
-        present,
         prev_rows,
         prev_cols,
         prev_sads,
@@ -116,13 +106,10 @@ pub fn frame_run(
         sads,
     );
     level_run(
-        width,
-        height,
+        frame,
         2,
         cur,
         reference,
-        weight,
-        present,
         prev_rows,
         prev_cols,
         prev_sads,

@@ -1,4 +1,5 @@
 use crate::runs::run_tests;
+use estimate::step::Frame;
 use frame::run::frame_run;
 use motion::superblock::superblocks_along;
 use order::list::list_refusal;
@@ -53,17 +54,20 @@ pub extern "C" fn lockdapple_frame_run(
     if number != 0 {
         return number;
     }
-    frame_run(
+    let frame = Frame {
         width,
         height,
+        weight: 0,
+        present: present != 0,
+    };
+    frame_run(
+        frame,
         cur,
         cur_half,
         cur_quarter,
         reference,
         ref_half,
         ref_quarter,
-        0,
-        present != 0,
         prev_rows,
         prev_cols,
         prev_sads,

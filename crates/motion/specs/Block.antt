@@ -19,7 +19,7 @@ planeOf width height l =
 unfoldable pub croppedTo : ℕ → ℕ → ℕ → ℕ
 croppedTo side size b = min size (side - cellSide * b)
 
--- the block of `size` pixels at cell (bx, by): at shift s it is bw>>s by bh>>s, with the range of bw by bh
+-- the block of `size` pixels at cell (bx, by): at shift s it is bw>>s by bh>>s, with the range of bw by bh; its rates weigh nothing
 unfoldable pub blockOf : (width height : ℕ) (l : Level) (size bx by : ℕ) → Block
 blockOf width height l size bx by =
     record {
@@ -31,4 +31,19 @@ blockOf width height l size bx by =
       pad = l .pad;
       range =
           rangeOf (width / cellSide) (height / cellSide) bx by (croppedTo width size bx) (croppedTo height size by) (l .ssdec);
+      weight = 0;
+    }
+
+-- the same block at another weight
+abbrev pub weighed : Block → ℕ → Block
+weighed b weight =
+    record {
+      «po_x» = b .«po_x»;
+      «po_y» = b .«po_y»;
+      w = b .w;
+      h = b .h;
+      stride = b .stride;
+      pad = b .pad;
+      range = b .range;
+      weight = weight;
     }

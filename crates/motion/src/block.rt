@@ -4,7 +4,7 @@ use crate::range::get_mv_range;
 ghost use mathlib.Core.Path.{_≡_};
 ghost use Prim.Native.Nat.{_*_, _≤_, _<_};
 ghost use Rattle.motion.specs.Limits.{largestSide, cellSide};
-ghost use Rattle.motion.specs.Block.{planeOf, blockOf, croppedTo};
+ghost use Rattle.motion.specs.Block.{planeOf, blockOf, croppedTo, weighed};
 
 // How a plane of a level lies in its slice.
 pub struct Plane {
@@ -13,7 +13,7 @@ pub struct Plane {
     pub pad: usize,
 }
 
-// A block at a level's shift: where it stands in the frame and its plane, its size, and its vectors.
+// A block at a level's shift: where it stands in the frame and its plane, its size, its vectors, and what their rate weighs.
 pub struct Block {
     pub po_x: usize,
     pub po_y: usize,
@@ -22,6 +22,26 @@ pub struct Block {
     pub stride: usize,
     pub pad: usize,
     pub range: MvRange,
+    pub weight: u32,
+}
+
+impl Block {
+    // The same block at another weight.
+    pub fn weighed(self, weight: u32) -> Block
+        ensures { λ r. ⌜ r ≡ weighed self weight ⌝ }
+    {
+        let range = self.range;
+        Block {
+            po_x: self.po_x,
+            po_y: self.po_y,
+            w: self.w,
+            h: self.h,
+            stride: self.stride,
+            pad: self.pad,
+            range,
+            weight,
+        }
+    }
 }
 
 pub fn plane_of(width: usize, height: usize, level: Level) -> Plane
@@ -46,6 +66,7 @@ pub fn cropped(side: usize, mv_size: usize, b: usize) -> usize
     if mv_size < left { mv_size } else { left }
 }
 
+// A block whose rates weigh nothing.
 pub fn block_of(
     width: usize,
     height: usize,
@@ -71,5 +92,6 @@ pub fn block_of(
         stride: plane.stride,
         pad: plane.pad,
         range,
+        weight: 0,
     }
 }

@@ -9,13 +9,14 @@ use borrow.Author.Tests.{leb-true}
 use lib.Dec.{T}
 use lib.IntN.{ℤ, pos, negsuc, negℤ, natAbs, _+ℤ_, +ℤ-assoc, +ℤ-comm}
 use lib.Signed.{shrZ, nonNeg}
+use Rattle.motion.specs.declared.block.Block.{Block}
 use Rattle.motion.specs.declared.level.Level.{Level}
 use Rattle.motion.specs.declared.vector.MotionVector.{MotionVector}
 use Rattle.motion.specs.Limits.{cellSide, vectorLimit}
 use Rattle.motion.specs.Asked.{Near}
 use Rattle.motion.specs.Frame.{Side, Starts, Sized}
 use Rattle.motion.specs.Range.{mvMin, mvMax, clip, rangeOf, within, inRange}
-use Rattle.motion.specs.Block.{planeOf, croppedTo, blockOf}
+use Rattle.motion.specs.Block.{planeOf, croppedTo, blockOf, weighed}
 use Rattle.motion.proofs.RangeLaws.{pos-minus, within-parts, in-range-parts, below-by}
 use Rattle.motion.proofs.AxisLaws.{Fitting, fitting, start-inside, crop-most, room, inside, low-is, high-is}
 use Rattle.sad.specs.Asked.{Inside, Measured, Lies}
@@ -131,3 +132,19 @@ module _ {l : Level} {size W H bx by : ℕ} (sized : Sized l size) (wide : Side 
             (inside-by (natAbs (moved (b .«po_x») (v .col) +ℤ pos (b .pad))) (natAbs (moved (b .«po_y») (v .row) +ℤ pos (b .pad))) (b .stride) (planeOf W H l .rows) (b .w) (b .h) n
             (columns v h .far) (lines v h .far) lent);
       }
+
+-- at another weight a block lies where it did
+pub weighed-measured : {b : Block} (weight : ℕ) → Measured b → Measured (weighed b weight)
+weighed-measured weight m =
+    record { across = m .across; down = m .down; pad = m .pad; stride = m .stride; wide = m .wide; high = m .high }
+
+pub weighed-lies : {b : Block} {n : ℕ} (weight : ℕ) → Lies b n → Lies (weighed b weight) n
+unfolding orgStart refStart
+weighed-lies weight h =
+    record {
+      measured = weighed-measured weight (h .measured);
+      near = h .near;
+      org = h .org;
+      reaches = λ v e. record { left = h .reaches v e .left; up = h .reaches v e .up };
+      ref = h .ref;
+    }

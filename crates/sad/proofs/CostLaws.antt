@@ -20,14 +20,14 @@ use Rattle.sad.proofs.Sums.{Under, block-le}
 abbrev pub mostSad : ℕ
 mostSad = largestSample * largestBlock * largestBlock
 
-module _ (b : Block) (cur ref : List ℕ) (weight : ℕ) (v : MotionVector) where
-  pub rd-in : inRange (b .range) v ≡ true → rdAt b cur ref weight v ≡ rdOf weight (sadAt b cur ref v) v
+module _ (b : Block) (cur ref : List ℕ) (v : MotionVector) where
+  pub rd-in : inRange (b .range) v ≡ true → rdAt b cur ref v ≡ rdOf (b .weight) (sadAt b cur ref v) v
   unfolding rdAt
-  rd-in h = ap (λ (t : Bool). cond t (rdOf weight (sadAt b cur ref v) v) emptyRd) h
+  rd-in h = ap (λ (t : Bool). cond t (rdOf (b .weight) (sadAt b cur ref v) v) emptyRd) h
 
-  pub rd-out : inRange (b .range) v ≡ false → rdAt b cur ref weight v ≡ emptyRd
+  pub rd-out : inRange (b .range) v ≡ false → rdAt b cur ref v ≡ emptyRd
   unfolding rdAt
-  rd-out h = ap (λ (t : Bool). cond t (rdOf weight (sadAt b cur ref v) v) emptyRd) h
+  rd-out h = ap (λ (t : Bool). cond t (rdOf (b .weight) (sadAt b cur ref v) v) emptyRd) h
 
   -- samples differ by at most 65,535
   pub sad-area : Under largestSample cur → Under largestSample ref → sadAt b cur ref v ≤ largestSample * b .w * b .h
@@ -43,9 +43,9 @@ unfolding rdOf
 cost-most weight sad v hw hs = omega (arith, mul-le-mul-right weight (rateV-le v))
 
 -- in range, a block of bytes costs that little
-pub in-range-most : (b : Block) (cur ref : List ℕ) (weight : ℕ) (v : MotionVector) → Measured b → Under largestSample cur → Under largestSample ref → weight < 2 ^ 32 → inRange (b .range) v ≡ true → rdAt b cur ref weight v .cost < 2 ^ 41
-in-range-most b cur ref weight v m hc hr hw h =
-    rw (rd-in b cur ref weight v h) (cost-most weight (sadAt b cur ref v) v hw (omega (arith, sad-most b cur ref weight v m hc hr)))
+pub in-range-most : (b : Block) (cur ref : List ℕ) (v : MotionVector) → Measured b → Under largestSample cur → Under largestSample ref → b .weight < 2 ^ 32 → inRange (b .range) v ≡ true → rdAt b cur ref v .cost < 2 ^ 41
+in-range-most b cur ref v m hc hr hw h =
+    rw (rd-in b cur ref v h) (cost-most (b .weight) (sadAt b cur ref v) v hw (omega (arith, sad-most b cur ref v m hc hr)))
 
 -- a vector in range, measured from where the two blocks start
 module _ (b : Block) (v : MotionVector) (held : inRange (b .range) v ≡ true) (s d : ℕ) (org : s ≡ orgStart b) (ref : d ≡ refStart b v) where

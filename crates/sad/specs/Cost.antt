@@ -23,5 +23,5 @@ unfoldable pub sadAt : (b : Block) (cur ref : List ℕ) (v : MotionVector) → �
 sadAt b cur ref v = sadBlock cur (orgStart b) ref (refStart b v) (b .stride) (b .w) (b .h)
 
 -- what a vector costs a block
-unfoldable pub rdAt : (b : Block) (cur ref : List ℕ) (weight : ℕ) (v : MotionVector) → MVCandidateRD
-rdAt b cur ref weight v = cond (inRange (b .range) v) (rdOf weight (sadAt b cur ref v) v) emptyRd
+unfoldable pub rdAt : (b : Block) (cur ref : List ℕ) (v : MotionVector) → MVCandidateRD
+rdAt b cur ref v = cond (inRange (b .range) v) (rdOf (b .weight) (sadAt b cur ref v) v) emptyRd

@@ -49,11 +49,10 @@ pub fn get_fullpel_mv_rd(
     b: Block,
     cur: &[u8],
     reference: &[u8],
-    weight: u32,
     cand_mv: MotionVector,
 ) -> MVCandidateRD
     requires { ⌜ Lies b (length (now cur)) × Lies b (length (now reference)) ⌝ }
-    ensures { λ r. ⌜ r ≡ rdAt b (now (cur .entry)) (now (reference .entry)) weight «cand_mv» ⌝ }
+    ensures { λ r. ⌜ r ≡ rdAt b (now (cur .entry)) (now (reference .entry)) «cand_mv» ⌝ }
 {
     if !b.range.holds(cand_mv) {
         return MVCandidateRD::empty();
@@ -61,5 +60,5 @@ pub fn get_fullpel_mv_rd(
     let src = org_start(b);
     let dst = ref_start(b, cand_mv);
     let sad = get_sad(cur, src, reference, dst, b.stride, b.w, b.h);
-    compute_mv_rd(weight, sad, cand_mv)
+    compute_mv_rd(b.weight, sad, cand_mv)
 }

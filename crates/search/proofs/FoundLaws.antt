@@ -33,18 +33,18 @@ use Rattle.search.proofs.MultiHexagonLaws.{kept-multi}
 use Rattle.search.proofs.FullLaws.{least-window}
 use Rattle.search.proofs.HandsBack.{Own}
 
-module _ (b : Block) (cur ref : List ℕ) (weight : ℕ) where
+module _ (b : Block) (cur ref : List ℕ) where
   -- in range, and its own SAD and cost unless it costs the most
   pub record Loose (best : MotionSearchResult) : Type 0 where
     pub in-range : Ranged b best
-    pub own : best .rd .cost < mostCost → Own (rdAt b cur ref weight) best
+    pub own : best .rd .cost < mostCost → Own (rdAt b cur ref) best
 
-  pub loose : (v : MotionVector) → rdAt b cur ref weight v .cost < mostCost → Loose (record { mv = v; rd = rdAt b cur ref weight v })
-  loose v h = record { in-range = ranged b cur ref weight v h; own = λ less. refl }
+  pub loose : (v : MotionVector) → rdAt b cur ref v .cost < mostCost → Loose (record { mv = v; rd = rdAt b cur ref v })
+  loose v h = record { in-range = ranged b cur ref v h; own = λ less. refl }
 
   -- at a cost of at most the most, as the laws of searches ask
   abbrev pub LooseKept : MotionSearchResult → Type 0
-  LooseKept best = Kept (rdAt b cur ref weight) Loose loose best
+  LooseKept best = Kept (rdAt b cur ref) Loose loose best
 
   pub loose-empty : inRange (b .range) zeroV ≡ true → LooseKept emptyResult
   unfolding emptyResult emptyRd
@@ -52,58 +52,58 @@ module _ (b : Block) (cur ref : List ℕ) (weight : ℕ) where
 
   -- with zero in range, all that a search makes of an empty best stays so
   pub loose-cheaper : (best other : MotionSearchResult) → LooseKept best → LooseKept other → LooseKept (cheaper best other)
-  loose-cheaper best other k o = kept-cheaper (rdAt b cur ref weight) Loose loose best other k (λ less. o .holds)
+  loose-cheaper best other k o = kept-cheaper (rdAt b cur ref) Loose loose best other k (λ less. o .holds)
 
-  pub loose-one : (best : MotionSearchResult) (v : MotionVector) → LooseKept best → LooseKept (tryOne (rdAt b cur ref weight) best v)
+  pub loose-one : (best : MotionSearchResult) (v : MotionVector) → LooseKept best → LooseKept (tryOne (rdAt b cur ref) best v)
   unfolding tryOne
   loose-one best v k =
-      let rd = rdAt b cur ref weight in
+      let rd = rdAt b cur ref in
       kept-cheaper rd Loose loose best (record { mv = v; rd = rd v }) k (loose v)
 
-  pub loose-each : (best : MotionSearchResult) (n : ℕ) (vs : ℕ → MotionVector) → LooseKept best → LooseKept (tryEach (rdAt b cur ref weight) best n vs)
-  loose-each best n vs k = kept-each (rdAt b cur ref weight) Loose loose best n vs k
+  pub loose-each : (best : MotionSearchResult) (n : ℕ) (vs : ℕ → MotionVector) → LooseKept best → LooseKept (tryEach (rdAt b cur ref) best n vs)
+  loose-each best n vs k = kept-each (rdAt b cur ref) Loose loose best n vs k
 
-  pub loose-pattern : (best : MotionSearchResult) (p : Pattern) (centre : MotionVector) → LooseKept best → LooseKept (tryPattern (rdAt b cur ref weight) best p centre)
-  loose-pattern best p centre k = kept-pattern (rdAt b cur ref weight) Loose loose best p centre k
+  pub loose-pattern : (best : MotionSearchResult) (p : Pattern) (centre : MotionVector) → LooseKept best → LooseKept (tryPattern (rdAt b cur ref) best p centre)
+  loose-pattern best p centre k = kept-pattern (rdAt b cur ref) Loose loose best p centre k
 
-  pub loose-diamond : (best : MotionSearchResult) → LooseKept best → LooseKept (diamond (rdAt b cur ref weight) best)
-  loose-diamond best k = kept-diamond (rdAt b cur ref weight) Loose loose best k
+  pub loose-diamond : (best : MotionSearchResult) → LooseKept best → LooseKept (diamond (rdAt b cur ref) best)
+  loose-diamond best k = kept-diamond (rdAt b cur ref) Loose loose best k
 
-  pub loose-hexagon : (best : MotionSearchResult) → LooseKept best → LooseKept (hexagon (rdAt b cur ref weight) best)
-  loose-hexagon best k = kept-hexagon (rdAt b cur ref weight) Loose loose best k
+  pub loose-hexagon : (best : MotionSearchResult) → LooseKept best → LooseKept (hexagon (rdAt b cur ref) best)
+  loose-hexagon best k = kept-hexagon (rdAt b cur ref) Loose loose best k
 
-  pub loose-multi : (best : MotionSearchResult) → LooseKept best → LooseKept (multiHexagon (rdAt b cur ref weight) best)
-  loose-multi best k = kept-multi (rdAt b cur ref weight) Loose loose best k
+  pub loose-multi : (best : MotionSearchResult) → LooseKept best → LooseKept (multiHexagon (rdAt b cur ref) best)
+  loose-multi best k = kept-multi (rdAt b cur ref) Loose loose best k
 
-  pub loose-window : inRange (b .range) zeroV ≡ true → (rows cols : Span) (n : ℕ) → LooseKept (windowTo (rdAt b cur ref weight) rows cols n)
+  pub loose-window : inRange (b .range) zeroV ≡ true → (rows cols : Span) (n : ℕ) → LooseKept (windowTo (rdAt b cur ref) rows cols n)
   unfolding windowTo rowOf
   loose-window z rows cols zero = loose-empty z
   loose-window z rows cols (suc n) =
-      let rd = rdAt b cur ref weight in
+      let rd = rdAt b cur ref in
       loose-each (windowTo rd rows cols n) (cols .count) (λ k. record { row = spanAt (rows .lo) n; col = spanAt (cols .lo) k }) (loose-window z rows cols n)
 
   -- a record in range, with its own SAD and cost, which is below the most
   pub record Settled (best : MotionSearchResult) : Type 0 where
     pub in-range : Ranged b best
-    pub own : Own (rdAt b cur ref weight) best
+    pub own : Own (rdAt b cur ref) best
     pub less : best .rd .cost < mostCost
 
-  module _ (m : Measured b) (hc : Under largestSample cur) (hr : Under largestSample ref) (hw : weight < 2 ^ 32) where
+  module _ (m : Measured b) (hc : Under largestSample cur) (hr : Under largestSample ref) (hw : b .weight < 2 ^ 32) where
     -- in range, a block of bytes costs less than the most
-    pub in-range-cost : (v : MotionVector) → inRange (b .range) v ≡ true → rdAt b cur ref weight v .cost < mostCost
-    in-range-cost v h = omega (arith, in-range-most b cur ref weight v m hc hr hw h)
+    pub in-range-cost : (v : MotionVector) → inRange (b .range) v ≡ true → rdAt b cur ref v .cost < mostCost
+    in-range-cost v h = omega (arith, in-range-most b cur ref v m hc hr hw h)
 
     -- so a record that is not above a vector in range is settled
-    pub settled : {best : MotionSearchResult} → LooseKept best → (v : MotionVector) → inRange (b .range) v ≡ true → best .rd .cost ≤ rdAt b cur ref weight v .cost → Settled best
+    pub settled : {best : MotionSearchResult} → LooseKept best → (v : MotionVector) → inRange (b .range) v ≡ true → best .rd .cost ≤ rdAt b cur ref v .cost → Settled best
     settled {best} k v h below =
         let less : best .rd .cost < mostCost = omega (arith, in-range-cost v h) in
         record { in-range = k .holds .in-range; own = k .holds .own less; less = less }
 
     -- what a refinement hands back, where its window has a candidate
-    pub refine-settled : Straddles (b .range) → (stored : MotionVector) → FitsV stored → (s : ℕ) → 0 < refineWindow (b .range) stored s .rows .count → 0 < refineWindow (b .range) stored s .cols .count → Settled (refine (rdAt b cur ref weight) (b .range) stored s)
+    pub refine-settled : Straddles (b .range) → (stored : MotionVector) → FitsV stored → (s : ℕ) → 0 < refineWindow (b .range) stored s .rows .count → 0 < refineWindow (b .range) stored s .cols .count → Settled (refine (rdAt b cur ref) (b .range) stored s)
     unfolding refine fullSearch
     refine-settled st stored f s hj hk =
         let rows = refineWindow (b .range) stored s .rows in
         let cols = refineWindow (b .range) stored s .cols in
         settled (loose-window (zero-in st) rows cols (rows .count)) (record { row = spanAt (rows .lo) 0; col = spanAt (cols .lo) 0 })
-        (window-in-range st f s 0 0 hj hk) (least-window (rdAt b cur ref weight) rows cols 0 0 hk (rows .count) hj)
+        (window-in-range st f s 0 0 hj hk) (least-window (rdAt b cur ref) rows cols 0 0 hk (rows .count) hj)

@@ -27,42 +27,42 @@ Own rd best = best .rd ≡ rd (best .mv)
 pub own : (rd : CostOf) (v : MotionVector) → rd v .cost < mostCost → Own rd (record { mv = v; rd = rd v })
 own rd v h = refl
 
-module _ (b : Block) (cur ref : List ℕ) (weight : ℕ) (start : MotionSearchResult) where
+module _ (b : Block) (cur ref : List ℕ) (start : MotionSearchResult) where
   pub record HandsBack (best : MotionSearchResult) : Type 0 where
     pub in-range : inRange (b .range) (best .mv) ≡ true
-    pub own : Own (rdAt b cur ref weight) best
+    pub own : Own (rdAt b cur ref) best
     pub not-above : best .rd .cost ≤ start .rd .cost
 
-  module _ (most : start .rd .cost ≤ mostCost) (in-range : inRange (b .range) (start .mv) ≡ true) (owned : Own (rdAt b cur ref weight) start) where
-    ranges : Kept (rdAt b cur ref weight) (Ranged b) (ranged b cur ref weight) start
+  module _ (most : start .rd .cost ≤ mostCost) (in-range : inRange (b .range) (start .mv) ≡ true) (owned : Own (rdAt b cur ref) start) where
+    ranges : Kept (rdAt b cur ref) (Ranged b) (ranged b cur ref) start
     ranges = record { most = most; holds = in-range }
 
-    owns : Kept (rdAt b cur ref weight) (Own (rdAt b cur ref weight)) (own (rdAt b cur ref weight)) start
+    owns : Kept (rdAt b cur ref) (Own (rdAt b cur ref)) (own (rdAt b cur ref)) start
     owns = record { most = most; holds = owned }
 
-    pub diamond-hands : HandsBack (diamond (rdAt b cur ref weight) start)
+    pub diamond-hands : HandsBack (diamond (rdAt b cur ref) start)
     diamond-hands =
-        let rd = rdAt b cur ref weight in
+        let rd = rdAt b cur ref in
         record {
-          in-range = kept-diamond rd (Ranged b) (ranged b cur ref weight) start ranges .holds;
+          in-range = kept-diamond rd (Ranged b) (ranged b cur ref) start ranges .holds;
           own = kept-diamond rd (Own rd) (own rd) start owns .holds;
           not-above = least-diamond rd start;
         }
 
-    pub hexagon-hands : HandsBack (hexagon (rdAt b cur ref weight) start)
+    pub hexagon-hands : HandsBack (hexagon (rdAt b cur ref) start)
     hexagon-hands =
-        let rd = rdAt b cur ref weight in
+        let rd = rdAt b cur ref in
         record {
-          in-range = kept-hexagon rd (Ranged b) (ranged b cur ref weight) start ranges .holds;
+          in-range = kept-hexagon rd (Ranged b) (ranged b cur ref) start ranges .holds;
           own = kept-hexagon rd (Own rd) (own rd) start owns .holds;
           not-above = least-hexagon rd start;
         }
 
-    pub multi-hands : HandsBack (multiHexagon (rdAt b cur ref weight) start)
+    pub multi-hands : HandsBack (multiHexagon (rdAt b cur ref) start)
     multi-hands =
-        let rd = rdAt b cur ref weight in
+        let rd = rdAt b cur ref in
         record {
-          in-range = kept-multi rd (Ranged b) (ranged b cur ref weight) start ranges .holds;
+          in-range = kept-multi rd (Ranged b) (ranged b cur ref) start ranges .holds;
           own = kept-multi rd (Own rd) (own rd) start owns .holds;
           not-above = least-multi rd start;
         }

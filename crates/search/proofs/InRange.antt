@@ -17,11 +17,11 @@ use Rattle.search.proofs.ResultLaws.{mostCost}
 abbrev pub Ranged : Block → MotionSearchResult → Type 0
 Ranged b best = inRange (b .range) (best .mv) ≡ true
 
-module _ (b : Block) (cur ref : List ℕ) (weight : ℕ) where
-  ranged-by : (v : MotionVector) (t : Bool) → inRange (b .range) v ≡ t → rdAt b cur ref weight v .cost < mostCost → inRange (b .range) v ≡ true
+module _ (b : Block) (cur ref : List ℕ) where
+  ranged-by : (v : MotionVector) (t : Bool) → inRange (b .range) v ≡ t → rdAt b cur ref v .cost < mostCost → inRange (b .range) v ≡ true
   unfolding emptyRd
   ranged-by v true e h = e
-  ranged-by v false e h = absurd (omega (arith, ap (λ (r : MVCandidateRD). r .cost) (rd-out b cur ref weight v e)))
+  ranged-by v false e h = absurd (omega (arith, ap (λ (r : MVCandidateRD). r .cost) (rd-out b cur ref v e)))
 
-  pub ranged : (v : MotionVector) → rdAt b cur ref weight v .cost < mostCost → Ranged b (record { mv = v; rd = rdAt b cur ref weight v })
+  pub ranged : (v : MotionVector) → rdAt b cur ref v .cost < mostCost → Ranged b (record { mv = v; rd = rdAt b cur ref v })
   ranged v h = ranged-by v (inRange (b .range) v) refl h

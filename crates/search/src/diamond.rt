@@ -18,13 +18,12 @@ fn diamond_round(
     b: Block,
     cur: &[u8],
     reference: &[u8],
-    weight: u32,
     center: MotionVector,
     radius_log2: u32,
 ) -> MotionSearchResult
     requires { ⌜ Lies b (length (now cur)) × Lies b (length (now reference)) ⌝ }
     requires { ⌜ («radius_log2» ≤ 1) × Near center ⌝ }
-    ensures { λ r. ⌜ r ≡ diamondBest (rdAt b (now (cur .entry)) (now (reference .entry)) weight) «radius_log2» center ⌝ }
+    ensures { λ r. ⌜ r ≡ diamondBest (rdAt b (now (cur .entry)) (now (reference .entry))) «radius_log2» center ⌝ }
 {
     let pattern = Pattern::Diamond(radius_log2);
     let down = pattern_point(pattern, center, 0);
@@ -32,10 +31,10 @@ fn diamond_round(
     let up = pattern_point(pattern, center, 2);
     let left = pattern_point(pattern, center, 3);
     let empty = MotionSearchResult::empty();
-    let first = empty.try_mv(b, cur, reference, weight, down);
-    let second = first.try_mv(b, cur, reference, weight, right);
-    let third = second.try_mv(b, cur, reference, weight, up);
-    third.try_mv(b, cur, reference, weight, left)
+    let first = empty.try_mv(b, cur, reference, down);
+    let second = first.try_mv(b, cur, reference, right);
+    let third = second.try_mv(b, cur, reference, up);
+    third.try_mv(b, cur, reference, left)
 }
 
 // Moves by the diamond, first of radius 2 pixels, then of 1, until it finds no cheaper point.
@@ -43,17 +42,16 @@ pub fn fullpel_diamond_search(
     b: Block,
     cur: &[u8],
     reference: &[u8],
-    weight: u32,
     start: MotionSearchResult,
 ) -> MotionSearchResult
     requires { ⌜ Lies b (length (now cur)) × Lies b (length (now reference)) ⌝ }
     requires { ⌜ inRange (b .range) (start .mv) ≡ true ⌝ }
-    ensures { λ r. ⌜ r ≡ diamond (rdAt b (now (cur .entry)) (now (reference .entry)) weight) start ⌝ }
+    ensures { λ r. ⌜ r ≡ diamond (rdAt b (now (cur .entry)) (now (reference .entry))) start ⌝ }
 {
     let mut current = start;
     let mut diamond_radius_log2: u32 = 1;
     loop {
-        let best_cand = diamond_round(b, cur, reference, weight, current.mv, diamond_radius_log2);
+        let best_cand = diamond_round(b, cur, reference, current.mv, diamond_radius_log2);
         if best_cand.rd.cost < current.rd.cost {
             current = best_cand;
         } else {

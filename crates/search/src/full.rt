@@ -17,14 +17,13 @@ fn search_row(
     b: Block,
     cur: &[u8],
     reference: &[u8],
-    weight: u32,
     row: i16,
     cols: Span,
     current: MotionSearchResult,
 ) -> MotionSearchResult
     requires { ⌜ Lies b (length (now cur)) × Lies b (length (now reference)) ⌝ }
     requires { ⌜ ((k : ℕ) → k < cols .count → Spanned (cols .lo) k) ⌝ }
-    ensures { λ r. ⌜ r ≡ rowOf (rdAt b (now (cur .entry)) (now (reference .entry)) weight) current row cols ⌝ }
+    ensures { λ r. ⌜ r ≡ rowOf (rdAt b (now (cur .entry)) (now (reference .entry))) current row cols ⌝ }
 {
     let lo = cols.lo;
     let n = cols.count;
@@ -32,24 +31,18 @@ fn search_row(
     let mut k = 0;
     while k < n {
         let col = span_at(lo, k);
-        best = best.try_mv(b, cur, reference, weight, MotionVector { row, col });
+        best = best.try_mv(b, cur, reference, MotionVector { row, col });
         k += 1;
     }
     best
 }
 
 // A window in raster order, from an empty best.
-pub fn full_search(
-    b: Block,
-    cur: &[u8],
-    reference: &[u8],
-    weight: u32,
-    window: Window,
-) -> MotionSearchResult
+pub fn full_search(b: Block, cur: &[u8], reference: &[u8], window: Window) -> MotionSearchResult
     requires { ⌜ Lies b (length (now cur)) × Lies b (length (now reference)) ⌝ }
     requires { ⌜ ((k : ℕ) → k < window .rows .count → Spanned (window .rows .lo) k) ⌝ }
     requires { ⌜ ((k : ℕ) → k < window .cols .count → Spanned (window .cols .lo) k) ⌝ }
-    ensures { λ r. ⌜ r ≡ fullSearch (rdAt b (now (cur .entry)) (now (reference .entry)) weight) window ⌝ }
+    ensures { λ r. ⌜ r ≡ fullSearch (rdAt b (now (cur .entry)) (now (reference .entry))) window ⌝ }
 {
     let rows = window.rows;
     let cols = window.cols;
@@ -59,7 +52,7 @@ pub fn full_search(
     let mut k = 0;
     while k < n {
         let row = span_at(lo, k);
-        best = search_row(b, cur, reference, weight, row, cols, best);
+        best = search_row(b, cur, reference, row, cols, best);
         k += 1;
     }
     best

@@ -25,17 +25,16 @@ fn try_index(
     b: Block,
     cur: &[u8],
     reference: &[u8],
-    weight: u32,
     center: MotionVector,
     i: usize,
     cand: HexCand,
 ) -> HexCand
     requires { ⌜ Lies b (length (now cur)) × Lies b (length (now reference)) ⌝ }
     requires { ⌜ (i < 6) × Near center ⌝ }
-    ensures { λ r. ⌜ r ≡ tryIndex (rdAt b (now (cur .entry)) (now (reference .entry)) weight) center cand i ⌝ }
+    ensures { λ r. ⌜ r ≡ tryIndex (rdAt b (now (cur .entry)) (now (reference .entry))) center cand i ⌝ }
 {
     let mv = hexagon_point(center, i);
-    let rd = get_fullpel_mv_rd(b, cur, reference, weight, mv);
+    let rd = get_fullpel_mv_rd(b, cur, reference, mv);
     let best = cand.best;
     if rd.cost < best.rd.cost {
         HexCand {
@@ -48,10 +47,10 @@ fn try_index(
 }
 
 // All six points.
-fn hexagon_six(b: Block, cur: &[u8], reference: &[u8], weight: u32, center: MotionVector) -> HexCand
+fn hexagon_six(b: Block, cur: &[u8], reference: &[u8], center: MotionVector) -> HexCand
     requires { ⌜ Lies b (length (now cur)) × Lies b (length (now reference)) ⌝ }
     requires { ⌜ Near center ⌝ }
-    ensures { λ r. ⌜ r ≡ hexagonSix (rdAt b (now (cur .entry)) (now (reference .entry)) weight) center ⌝ }
+    ensures { λ r. ⌜ r ≡ hexagonSix (rdAt b (now (cur .entry)) (now (reference .entry))) center ⌝ }
 {
     let mut cand = HexCand {
         idx: 0,
@@ -59,7 +58,7 @@ fn hexagon_six(b: Block, cur: &[u8], reference: &[u8], weight: u32, center: Moti
     };
     let mut i = 0;
     while i < 6 {
-        cand = try_index(b, cur, reference, weight, center, i, cand);
+        cand = try_index(b, cur, reference, center, i, cand);
         i += 1;
     }
     cand
@@ -70,21 +69,20 @@ fn hexagon_three(
     b: Block,
     cur: &[u8],
     reference: &[u8],
-    weight: u32,
     center: MotionVector,
     idx: usize,
 ) -> HexCand
     requires { ⌜ Lies b (length (now cur)) × Lies b (length (now reference)) ⌝ }
     requires { ⌜ (idx < 6) × Near center ⌝ }
-    ensures { λ r. ⌜ r ≡ hexagonThree (rdAt b (now (cur .entry)) (now (reference .entry)) weight) center idx ⌝ }
+    ensures { λ r. ⌜ r ≡ hexagonThree (rdAt b (now (cur .entry)) (now (reference .entry))) center idx ⌝ }
 {
     let none = HexCand {
         idx,
         best: MotionSearchResult::empty(),
     };
-    let first = try_index(b, cur, reference, weight, center, (idx + 5) % 6, none);
-    let second = try_index(b, cur, reference, weight, center, idx, first);
-    try_index(b, cur, reference, weight, center, (idx + 1) % 6, second)
+    let first = try_index(b, cur, reference, center, (idx + 5) % 6, none);
+    let second = try_index(b, cur, reference, center, idx, first);
+    try_index(b, cur, reference, center, (idx + 1) % 6, second)
 }
 
 // One round of the eight square points.
@@ -92,23 +90,14 @@ fn square_refine(
     b: Block,
     cur: &[u8],
     reference: &[u8],
-    weight: u32,
     current: MotionSearchResult,
 ) -> MotionSearchResult
     requires { ⌜ Lies b (length (now cur)) × Lies b (length (now reference)) ⌝ }
     requires { ⌜ Near (current .mv) ⌝ }
-    ensures { λ r. ⌜ r ≡ squareRound (rdAt b (now (cur .entry)) (now (reference .entry)) weight) current ⌝ }
+    ensures { λ r. ⌜ r ≡ squareRound (rdAt b (now (cur .entry)) (now (reference .entry))) current ⌝ }
 {
     let empty = MotionSearchResult::empty();
-    let best_cand = try_pattern(
-        b,
-        cur,
-        reference,
-        weight,
-        Pattern::Square,
-        current.mv,
-        empty,
-    );
+    let best_cand = try_pattern(b, cur, reference, Pattern::Square, current.mv, empty);
     current.or_cheaper(best_cand)
 }
 
@@ -117,20 +106,19 @@ pub fn hexagon_search(
     b: Block,
     cur: &[u8],
     reference: &[u8],
-    weight: u32,
     start: MotionSearchResult,
 ) -> MotionSearchResult
     requires { ⌜ Lies b (length (now cur)) × Lies b (length (now reference)) ⌝ }
     requires { ⌜ inRange (b .range) (start .mv) ≡ true ⌝ }
-    ensures { λ r. ⌜ r ≡ hexagon (rdAt b (now (cur .entry)) (now (reference .entry)) weight) start ⌝ }
+    ensures { λ r. ⌜ r ≡ hexagon (rdAt b (now (cur .entry)) (now (reference .entry))) start ⌝ }
 {
     let mut current = start;
-    let mut cand = hexagon_six(b, cur, reference, weight, current.mv);
+    let mut cand = hexagon_six(b, cur, reference, current.mv);
     while cand.best.rd.cost < current.rd.cost {
         let best = cand.best;
         let idx = cand.idx;
         current = best;
-        cand = hexagon_three(b, cur, reference, weight, best.mv, idx);
+        cand = hexagon_three(b, cur, reference, best.mv, idx);
     }
-    square_refine(b, cur, reference, weight, current)
+    square_refine(b, cur, reference, current)
 }

@@ -17,16 +17,15 @@ fn cross_search(
     b: Block,
     cur: &[u8],
     reference: &[u8],
-    weight: u32,
     current: MotionSearchResult,
 ) -> MotionSearchResult
     requires { ⌜ Lies b (length (now cur)) × Lies b (length (now reference)) ⌝ }
     requires { ⌜ Near (current .mv) ⌝ }
-    ensures { λ r. ⌜ r ≡ cross (rdAt b (now (cur .entry)) (now (reference .entry)) weight) current ⌝ }
+    ensures { λ r. ⌜ r ≡ cross (rdAt b (now (cur .entry)) (now (reference .entry))) current ⌝ }
 {
     let center = current.mv;
-    let rows = try_pattern(b, cur, reference, weight, Pattern::RowLine, center, current);
-    try_pattern(b, cur, reference, weight, Pattern::ColLine, center, rows)
+    let rows = try_pattern(b, cur, reference, Pattern::RowLine, center, current);
+    try_pattern(b, cur, reference, Pattern::ColLine, center, rows)
 }
 
 // The 24 neighbours of the best so far, in eighths.
@@ -34,15 +33,14 @@ fn eighths_square_search(
     b: Block,
     cur: &[u8],
     reference: &[u8],
-    weight: u32,
     current: MotionSearchResult,
 ) -> MotionSearchResult
     requires { ⌜ Lies b (length (now cur)) × Lies b (length (now reference)) ⌝ }
     requires { ⌜ Near (current .mv) ⌝ }
-    ensures { λ r. ⌜ r ≡ eighthsSquare (rdAt b (now (cur .entry)) (now (reference .entry)) weight) current ⌝ }
+    ensures { λ r. ⌜ r ≡ eighthsSquare (rdAt b (now (cur .entry)) (now (reference .entry))) current ⌝ }
 {
     let center = current.mv;
-    try_pattern(b, cur, reference, weight, Pattern::Eighths, center, current)
+    try_pattern(b, cur, reference, Pattern::Eighths, center, current)
 }
 
 // The sixteen points times 1 to 6, round the best so far.
@@ -50,30 +48,28 @@ fn rings_search(
     b: Block,
     cur: &[u8],
     reference: &[u8],
-    weight: u32,
     current: MotionSearchResult,
 ) -> MotionSearchResult
     requires { ⌜ Lies b (length (now cur)) × Lies b (length (now reference)) ⌝ }
     requires { ⌜ Near (current .mv) ⌝ }
-    ensures { λ r. ⌜ r ≡ rings (rdAt b (now (cur .entry)) (now (reference .entry)) weight) current ⌝ }
+    ensures { λ r. ⌜ r ≡ rings (rdAt b (now (cur .entry)) (now (reference .entry))) current ⌝ }
 {
     let center = current.mv;
-    try_pattern(b, cur, reference, weight, Pattern::Umh, center, current)
+    try_pattern(b, cur, reference, Pattern::Umh, center, current)
 }
 
 pub fn uneven_multi_hex_search(
     b: Block,
     cur: &[u8],
     reference: &[u8],
-    weight: u32,
     start: MotionSearchResult,
 ) -> MotionSearchResult
     requires { ⌜ Lies b (length (now cur)) × Lies b (length (now reference)) ⌝ }
     requires { ⌜ inRange (b .range) (start .mv) ≡ true ⌝ }
-    ensures { λ r. ⌜ r ≡ multiHexagon (rdAt b (now (cur .entry)) (now (reference .entry)) weight) start ⌝ }
+    ensures { λ r. ⌜ r ≡ multiHexagon (rdAt b (now (cur .entry)) (now (reference .entry))) start ⌝ }
 {
-    let crossed = cross_search(b, cur, reference, weight, start);
-    let near = eighths_square_search(b, cur, reference, weight, crossed);
-    let far = rings_search(b, cur, reference, weight, near);
-    hexagon_search(b, cur, reference, weight, far)
+    let crossed = cross_search(b, cur, reference, start);
+    let near = eighths_square_search(b, cur, reference, crossed);
+    let far = rings_search(b, cur, reference, near);
+    hexagon_search(b, cur, reference, far)
 }

@@ -50,11 +50,10 @@ impl MotionSearchResult {
         b: Block,
         cur: &[u8],
         reference: &[u8],
-        weight: u32,
         cand_mv: MotionVector,
     ) -> MotionSearchResult
         requires { ⌜ Lies b (length (now cur)) × Lies b (length (now reference)) ⌝ }
-        ensures { λ r. ⌜ r ≡ tryOne (rdAt b (now (cur .entry)) (now (reference .entry)) weight) self «cand_mv» ⌝ }
+        ensures { λ r. ⌜ r ≡ tryOne (rdAt b (now (cur .entry)) (now (reference .entry))) self «cand_mv» ⌝ }
     {
         // Out of range it costs the most, and the most is never cheaper.
         if !b.range.holds(cand_mv) {
@@ -63,7 +62,7 @@ impl MotionSearchResult {
         let src = org_start(b);
         let dst = ref_start(b, cand_mv);
         let sad = get_sad(cur, src, reference, dst, b.stride, b.w, b.h);
-        let rd = compute_mv_rd(weight, sad, cand_mv);
+        let rd = compute_mv_rd(b.weight, sad, cand_mv);
         self.or_cheaper(MotionSearchResult { mv: cand_mv, rd })
     }
 }
@@ -73,21 +72,20 @@ pub fn try_pattern(
     b: Block,
     cur: &[u8],
     reference: &[u8],
-    weight: u32,
     pattern: Pattern,
     center: MotionVector,
     current: MotionSearchResult,
 ) -> MotionSearchResult
     requires { ⌜ Lies b (length (now cur)) × Lies b (length (now reference)) ⌝ }
     requires { ⌜ Plain pattern × Near center ⌝ }
-    ensures { λ r. ⌜ r ≡ tryPattern (rdAt b (now (cur .entry)) (now (reference .entry)) weight) current pattern center ⌝ }
+    ensures { λ r. ⌜ r ≡ tryPattern (rdAt b (now (cur .entry)) (now (reference .entry))) current pattern center ⌝ }
 {
     let n = pattern_points(pattern);
     let mut best = current;
     let mut i = 0;
     while i < n {
         let cand_mv = pattern_point(pattern, center, i);
-        best = best.try_mv(b, cur, reference, weight, cand_mv);
+        best = best.try_mv(b, cur, reference, cand_mv);
         i += 1;
     }
     best

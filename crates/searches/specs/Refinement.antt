@@ -6,6 +6,7 @@ use lib.ListN.{length}
 use Rattle.motion.specs.declared.vector.MotionVector.{MotionVector}
 use Rattle.motion.specs.declared.block.Block.{Block}
 use Rattle.motion.specs.Level.{levelOf}
+use Rattle.motion.specs.Block.{weighed}
 use Rattle.grid.specs.Grid.{cellAt, storedAt}
 use Rattle.refusal.specs.Refusals.{refuse, _then_, callRefusal, gridOk}
 use Rattle.sad.specs.Cost.{rdAt}
@@ -16,15 +17,15 @@ use Rattle.single.specs.Found.{foundOf, answer}
 use Rattle.single.specs.Call.{blockAt}
 
 -- 8: an empty window; else vector, SAD and cost at shift s
-unfoldable pub windowAnswer : (b : Block) (cur ref : List ℕ) (weight : ℕ) (stored : MotionVector) (s : ℕ) → Found
-windowAnswer b cur ref weight stored s =
-    let best = refine (rdAt b cur ref weight) (b .range) stored s in
+unfoldable pub windowAnswer : (b : Block) (cur ref : List ℕ) (stored : MotionVector) (s : ℕ) → Found
+windowAnswer b cur ref stored s =
+    let best = refine (rdAt b cur ref) (b .range) stored s in
     answer (refuse 8 (windowOk (refineWindow (b .range) stored s))) (foundOf (best .mv) (best .rd))
 
 -- refusals 1 to 4, then 5: a grid too short, then 8
 unfoldable pub refineAnswer : (width height level bx by : ℕ) (cur ref : List ℕ) (rows cols : List ℤ) (sads : List ℕ) (weight : ℕ) → Found
 refineAnswer width height level bx by cur ref rows cols sads weight =
-    let b = blockAt width height level 1 bx by in
+    let b = weighed (blockAt width height level 1 bx by) weight in
     let stored = storedAt rows cols (cellAt width bx by) in
     answer (callRefusal width height level 1 bx by (length cur) (length ref) then refuse 5 (gridOk width height (length rows) (length cols) (length sads)))
-    (windowAnswer b cur ref weight stored (levelOf level .ssdec))
+    (windowAnswer b cur ref stored (levelOf level .ssdec))

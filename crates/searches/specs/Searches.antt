@@ -4,6 +4,7 @@ use mathlib.Core.List.{List}
 use lib.ListN.{length}
 use Rattle.motion.specs.declared.vector.MotionVector.{MotionVector}
 use Rattle.motion.specs.Range.{inRange}
+use Rattle.motion.specs.Block.{weighed}
 use Rattle.refusal.specs.Refusals.{refuse, _then_, callRefusal}
 use Rattle.sad.specs.Cost.{rdAt}
 use Rattle.search.specs.declared.result.MotionSearchResult.{MotionSearchResult}
@@ -30,6 +31,6 @@ searchRefusal width height level bx by n m v =
 -- vector, SAD and cost at shift s, or the refusal
 unfoldable pub searchAnswer : (method : Method) (width height level bx by : ℕ) (cur ref : List ℕ) (v : MotionVector) (weight : ℕ) → Found
 searchAnswer method width height level bx by cur ref v weight =
-    let rd = rdAt (blockAt width height level 0 bx by) cur ref weight in
+    let rd = rdAt (weighed (blockAt width height level 0 bx by) weight) cur ref in
     let best = searchBy method rd (record { mv = v; rd = rd v }) in
     answer (searchRefusal width height level bx by (length cur) (length ref) v) (foundOf (best .mv) (best .rd))

@@ -126,8 +126,8 @@ pub extern "C" fn lockdapple_refine(
     if !grid_ok(width, height, rows.len(), cols.len(), sads.len()) {
         return Found::refuse(5);
     }
-    let b = block_at(width, height, level, 1, bx, by);
+    let b = block_at(width, height, level, 1, bx, by).weighed(weight);
     let stored = stored_at(rows, cols, cell_at(width, bx, by));
     let ssdec = level_of(level).ssdec;
-    refine_block(b, cur, reference, weight, stored, ssdec)
+    refine_block(b, cur, reference, stored, ssdec)
 }

@@ -14,18 +14,17 @@ pub(crate) fn refine_block(
     b: Block,
     cur: &[u8],
     reference: &[u8],
-    weight: u32,
     stored: MotionVector,
     ssdec: u32,
 ) -> Found
     requires { ⌜ Lies b (length (now cur)) × Lies b (length (now reference)) ⌝ }
     requires { ⌜ ssdec < 16 ⌝ }
-    ensures { λ r. ⌜ r ≡ windowAnswer b (now (cur .entry)) (now (reference .entry)) weight stored ssdec ⌝ }
+    ensures { λ r. ⌜ r ≡ windowAnswer b (now (cur .entry)) (now (reference .entry)) stored ssdec ⌝ }
 {
     let window = refine_window(b.range, stored, ssdec);
     if !window.ok() {
         return Found::refuse(8);
     }
-    let best = full_search(b, cur, reference, weight, window);
+    let best = full_search(b, cur, reference, window);
     Found::done(best.mv, best.rd)
 }

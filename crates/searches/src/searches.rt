@@ -28,17 +28,16 @@ fn search_by(
     b: Block,
     cur: &[u8],
     reference: &[u8],
-    weight: u32,
     start: MotionSearchResult,
 ) -> MotionSearchResult
     requires { ⌜ Lies b (length (now cur)) × Lies b (length (now reference)) ⌝ }
     requires { ⌜ inRange (b .range) (start .mv) ≡ true ⌝ }
-    ensures { λ r. ⌜ r ≡ searchBy method (rdAt b (now (cur .entry)) (now (reference .entry)) weight) start ⌝ }
+    ensures { λ r. ⌜ r ≡ searchBy method (rdAt b (now (cur .entry)) (now (reference .entry))) start ⌝ }
 {
     match method {
-        Method::Diamond => fullpel_diamond_search(b, cur, reference, weight, start),
-        Method::Hexagon => hexagon_search(b, cur, reference, weight, start),
-        Method::MultiHexagon => uneven_multi_hex_search(b, cur, reference, weight, start),
+        Method::Diamond => fullpel_diamond_search(b, cur, reference, start),
+        Method::Hexagon => hexagon_search(b, cur, reference, start),
+        Method::MultiHexagon => uneven_multi_hex_search(b, cur, reference, start),
     }
 }
 
@@ -61,18 +60,11 @@ pub(crate) fn single_search(
     if code != 0 {
         return Found::refuse(code);
     }
-    let b = block_at(width, height, level, 0, bx, by);
+    let b = block_at(width, height, level, 0, bx, by).weighed(weight);
     if !b.range.holds(mv) {
         return Found::refuse(9);
     }
-    let rd = get_fullpel_mv_rd(b, cur, reference, weight, mv);
-    let best = search_by(
-        method,
-        b,
-        cur,
-        reference,
-        weight,
-        MotionSearchResult { mv, rd },
-    );
+    let rd = get_fullpel_mv_rd(b, cur, reference, mv);
+    let best = search_by(method, b, cur, reference, MotionSearchResult { mv, rd });
     Found::done(best.mv, best.rd)
 }

@@ -7,6 +7,7 @@ use lib.IntN.{pos}
 use lib.ListN.{length}
 use Rattle.motion.specs.declared.vector.MotionVector.{MotionVector}
 use Rattle.motion.specs.declared.range.MvRange.{MvRange}
+use Rattle.motion.specs.Block.{weighed}
 use Rattle.refusal.specs.Refusals.{blockRefusal, callRefusal}
 use Rattle.sad.specs.Cost.{rdAt}
 use Rattle.single.specs.declared.found.Found.{Found}
@@ -30,4 +31,4 @@ rangeAnswer width height level refined bx by =
 unfoldable pub candidateAnswer : (width height level refined bx by : ℕ) (cur ref : List ℕ) (v : MotionVector) (weight : ℕ) → Found
 candidateAnswer width height level refined bx by cur ref v weight =
     answer (callRefusal width height level refined bx by (length cur) (length ref))
-    (foundOf v (rdAt (blockAt width height level refined bx by) cur ref weight v))
+    (foundOf v (rdAt (weighed (blockAt width height level refined bx by) weight) cur ref v))

@@ -74,9 +74,9 @@ pub extern "C" fn lockdapple_candidate(
     if code != 0 {
         return Found::refuse(code);
     }
-    let b = block_at(width, height, level, refined, bx, by);
+    let b = block_at(width, height, level, refined, bx, by).weighed(weight);
     let mv = MotionVector { row, col };
-    Found::done(mv, get_fullpel_mv_rd(b, cur, reference, weight, mv))
+    Found::done(mv, get_fullpel_mv_rd(b, cur, reference, mv))
 }
 
 #[no_mangle]

@@ -1,5 +1,7 @@
 use crate::steps::plane_at;
 use crate::steps::step_tests;
+use estimate::step::Frame;
+use estimate::step::Step;
 use superblock::step::superblock_step;
 ghost use mathlib.Core.Path.{_≡_};
 ghost use Rattle.grid.specs.Grid.{gridOf};
@@ -29,15 +31,15 @@ pub extern "C" fn lockdapple_superblock_step<'a>(
     ensures { λ r. ⌜ r ≡ stepRefusal width height level superblock (planeAt (planesOf (now (cur .entry)) (now («cur_half» .entry)) (now («cur_quarter» .entry))) level) (planeAt (planesOf (now (reference .entry)) (now («ref_half» .entry)) (now («ref_quarter» .entry))) level) present (gridOf (now («prev_rows» .entry)) (now («prev_cols» .entry)) (now («prev_sads» .entry))) (gridOf (now (rows .entry)) (now (cols .entry)) (now (sads .entry))) ⌝ }
     ensures { λ r. ⌜ gridOf (now (rows .exit)) (now (cols .exit)) (now (sads .exit)) ≡ stepGrid width height level superblock (planeAt (planesOf (now (cur .entry)) (now («cur_half» .entry)) (now («cur_quarter» .entry))) level) (planeAt (planesOf (now (reference .entry)) (now («ref_half» .entry)) (now («ref_quarter» .entry))) level) present (gridOf (now («prev_rows» .entry)) (now («prev_cols» .entry)) (now («prev_sads» .entry))) 0 (gridOf (now (rows .entry)) (now (cols .entry)) (now (sads .entry))) ⌝ }
 {
-    let org = plane_at(level, cur, cur_half, cur_quarter);
-    let rec = plane_at(level, reference, ref_half, ref_quarter);
+    let at_cur = plane_at(level, cur, cur_half, cur_quarter);
+    let at_ref = plane_at(level, reference, ref_half, ref_quarter);
     let code = step_tests(
         width,
         height,
         level,
         superblock,
-        org,
-        rec,
+        at_cur,
+        at_ref,
         present,
         prev_rows,
         prev_cols,
@@ -49,15 +51,21 @@ pub extern "C" fn lockdapple_superblock_step<'a>(
     if code != 0 {
         return code;
     }
-    if !superblock_step(
+    let frame = Frame {
         width,
         height,
+        weight: 0,
+        present: present != 0,
+    };
+    let s = Step {
+        frame,
         level,
         superblock,
-        org,
-        rec,
-        0,
-        present != 0,
+    };
+    if !superblock_step(
+        s,
+        at_cur,
+        at_ref,
         prev_rows,
         prev_cols,
         prev_sads,

@@ -1,6 +1,7 @@
 use estimate::block::estimate_motion;
 use estimate::block::refine_motion;
 use estimate::block::window_at;
+use estimate::step::Step;
 use grid::save::save_me_stats;
 use motion::level::level_of;
 use motion::superblock::superblock_x;
@@ -13,8 +14,8 @@ ghost use Rattle.motion.specs.Frame.{Side};
 ghost use Rattle.motion.specs.Limits.{largestSide, cellSide, superblockSide};
 ghost use Rattle.motion.specs.Superblock.{superblocks};
 ghost use Rattle.grid.specs.Grid.{Held, cells, gridOf};
-ghost use Rattle.grid.specs.Previous.{HeldIf, previousOf};
-ghost use Rattle.estimate.specs.Inputs.{inputsOf};
+ghost use Rattle.grid.specs.Previous.{HeldIf};
+ghost use Rattle.estimate.specs.Inputs.{inputsIn, previousIn};
 ghost use Rattle.estimate.specs.Asked.{Ready, Leveled};
 ghost use Rattle.superblock.specs.Step.{blocksAlong, blockCount, blockX, blockY, refinedCount, windowsOk, refinements, estimates, step};
 
@@ -67,25 +68,20 @@ fn refined_count(width: usize, height: usize, level: usize, superblock: usize) -
 }
 
 // Whether no refinement of a step has an empty window.
-pub fn windows_ok(
-    width: usize,
-    height: usize,
-    level: usize,
-    superblock: usize,
-    rows: &[i16],
-    cols: &[i16],
-) -> bool
-    requires { ⌜ Side width × Side height × Leveled level × (superblock < superblocks width height) ⌝ }
-    requires { ⌜ (cells width height ≤ length (now rows)) × (cells width height ≤ length (now cols)) ⌝ }
-    ensures { λ r. ⌜ r ≡ windowsOk width height level superblock (now (rows .entry)) (now (cols .entry)) ⌝ }
+pub fn windows_ok(s: Step, rows: &[i16], cols: &[i16]) -> bool
+    requires { ⌜ Side (s .frame .width) × Side (s .frame .height) × Leveled (s .level) × (s .superblock < superblocks (s .frame .width) (s .frame .height)) ⌝ }
+    requires { ⌜ (cells (s .frame .width) (s .frame .height) ≤ length (now rows)) × (cells (s .frame .width) (s .frame .height) ≤ length (now cols)) ⌝ }
+    ensures { λ r. ⌜ r ≡ windowsOk (s .frame .width) (s .frame .height) (s .level) (s .superblock) (now (rows .entry)) (now (cols .entry)) ⌝ }
 {
-    let mv_size = level_of(level).refined;
-    let count = refined_count(width, height, level, superblock);
+    let width = s.frame.width;
+    let superblock = s.superblock;
+    let mv_size = level_of(s.level).refined;
+    let count = refined_count(width, s.frame.height, s.level, superblock);
     let mut k = 0;
     while k < count {
         let bx = block_x(width, mv_size, superblock, k);
         let by = block_y(width, mv_size, superblock, k);
-        if !window_at(width, height, level, bx, by, rows, cols).ok() {
+        if !window_at(s, bx, by, rows, cols).ok() {
             return false;
         }
         k += 1;
@@ -95,40 +91,28 @@ pub fn windows_ok(
 
 // The refinements of a superblock, none of whose windows is empty.
 fn refine_sb_motion(
-    width: usize,
-    height: usize,
-    level: usize,
-    superblock: usize,
+    s: Step,
     cur: &[u8],
     reference: &[u8],
-    weight: u32,
     rows: &mut [i16],
     cols: &mut [i16],
     sads: &mut [u32],
 )
-    requires { ⌜ Ready (inputsOf width height level (now cur) (now reference) weight) × (superblock < superblocks width height) ⌝ }
-    requires { ⌜ Held width height (gridOf (now rows) (now cols) (now sads)) ⌝ }
-    requires { ⌜ windowsOk width height level superblock (now rows) (now cols) ≡ true ⌝ }
-    ensures { λ r. ⌜ gridOf (now (rows .exit)) (now (cols .exit)) (now (sads .exit)) ≡ refinements (inputsOf width height level (now (cur .entry)) (now (reference .entry)) weight) superblock (gridOf (now (rows .entry)) (now (cols .entry)) (now (sads .entry))) ⌝ }
+    requires { ⌜ Ready (inputsIn (s .frame) (s .level) (now cur) (now reference)) × (s .superblock < superblocks (s .frame .width) (s .frame .height)) ⌝ }
+    requires { ⌜ Held (s .frame .width) (s .frame .height) (gridOf (now rows) (now cols) (now sads)) ⌝ }
+    requires { ⌜ windowsOk (s .frame .width) (s .frame .height) (s .level) (s .superblock) (now rows) (now cols) ≡ true ⌝ }
+    ensures { λ r. ⌜ gridOf (now (rows .exit)) (now (cols .exit)) (now (sads .exit)) ≡ refinements (inputsIn (s .frame) (s .level) (now (cur .entry)) (now (reference .entry))) (s .superblock) (gridOf (now (rows .entry)) (now (cols .entry)) (now (sads .entry))) ⌝ }
 {
-    let mv_size = level_of(level).refined;
-    let count = refined_count(width, height, level, superblock);
+    let width = s.frame.width;
+    let height = s.frame.height;
+    let superblock = s.superblock;
+    let mv_size = level_of(s.level).refined;
+    let count = refined_count(width, height, s.level, superblock);
     let mut k = 0;
     while k < count {
         let bx = block_x(width, mv_size, superblock, k);
         let by = block_y(width, mv_size, superblock, k);
-        let stats = refine_motion(
-            width,
-            height,
-            level,
-            bx,
-            by,
-            cur,
-            reference,
-            weight,
-            &*rows,
-            &*cols,
-        );
+        let stats = refine_motion(s, bx, by, cur, reference, &*rows, &*cols);
         save_me_stats(width, height, mv_size, bx, by, stats, rows, cols, sads);
         k += 1;
     }
@@ -136,14 +120,9 @@ fn refine_sb_motion(
 
 // The blocks of a superblock.
 fn estimate_sb_motion(
-    width: usize,
-    height: usize,
-    level: usize,
-    superblock: usize,
+    s: Step,
     cur: &[u8],
     reference: &[u8],
-    weight: u32,
-    present: bool,
     prev_rows: &[i16],
     prev_cols: &[i16],
     prev_sads: &[u32],
@@ -151,27 +130,26 @@ fn estimate_sb_motion(
     cols: &mut [i16],
     sads: &mut [u32],
 )
-    requires { ⌜ Ready (inputsOf width height level (now cur) (now reference) weight) × (superblock < superblocks width height) ⌝ }
-    requires { ⌜ HeldIf width height (previousOf present (gridOf (now «prev_rows») (now «prev_cols») (now «prev_sads»))) ⌝ }
-    requires { ⌜ Held width height (gridOf (now rows) (now cols) (now sads)) ⌝ }
-    ensures { λ r. ⌜ gridOf (now (rows .exit)) (now (cols .exit)) (now (sads .exit)) ≡ estimates (inputsOf width height level (now (cur .entry)) (now (reference .entry)) weight) (previousOf present (gridOf (now («prev_rows» .entry)) (now («prev_cols» .entry)) (now («prev_sads» .entry)))) superblock (gridOf (now (rows .entry)) (now (cols .entry)) (now (sads .entry))) ⌝ }
+    requires { ⌜ Ready (inputsIn (s .frame) (s .level) (now cur) (now reference)) × (s .superblock < superblocks (s .frame .width) (s .frame .height)) ⌝ }
+    requires { ⌜ HeldIf (s .frame .width) (s .frame .height) (previousIn (s .frame) (gridOf (now «prev_rows») (now «prev_cols») (now «prev_sads»))) ⌝ }
+    requires { ⌜ Held (s .frame .width) (s .frame .height) (gridOf (now rows) (now cols) (now sads)) ⌝ }
+    ensures { λ r. ⌜ gridOf (now (rows .exit)) (now (cols .exit)) (now (sads .exit)) ≡ estimates (inputsIn (s .frame) (s .level) (now (cur .entry)) (now (reference .entry))) (previousIn (s .frame) (gridOf (now («prev_rows» .entry)) (now («prev_cols» .entry)) (now («prev_sads» .entry)))) (s .superblock) (gridOf (now (rows .entry)) (now (cols .entry)) (now (sads .entry))) ⌝ }
 {
-    let mv_size = level_of(level).mv_size;
+    let width = s.frame.width;
+    let height = s.frame.height;
+    let superblock = s.superblock;
+    let mv_size = level_of(s.level).mv_size;
     let count = block_count(width, height, mv_size, superblock);
     let mut k = 0;
     while k < count {
         let bx = block_x(width, mv_size, superblock, k);
         let by = block_y(width, mv_size, superblock, k);
         let stats = estimate_motion(
-            width,
-            height,
-            level,
+            s,
             bx,
             by,
             cur,
             reference,
-            weight,
-            present,
             prev_rows,
             prev_cols,
             prev_sads,
@@ -186,14 +164,9 @@ fn estimate_sb_motion(
 
 // One superblock at one level. False, with the grid as it stood, where a window is empty.
 pub fn superblock_step(
-    width: usize,
-    height: usize,
-    level: usize,
-    superblock: usize,
+    s: Step,
     cur: &[u8],
     reference: &[u8],
-    weight: u32,
-    present: bool,
     prev_rows: &[i16],
     prev_cols: &[i16],
     prev_sads: &[u32],
@@ -201,36 +174,20 @@ pub fn superblock_step(
     cols: &mut [i16],
     sads: &mut [u32],
 ) -> bool
-    requires { ⌜ Ready (inputsOf width height level (now cur) (now reference) weight) × (superblock < superblocks width height) ⌝ }
-    requires { ⌜ HeldIf width height (previousOf present (gridOf (now «prev_rows») (now «prev_cols») (now «prev_sads»))) ⌝ }
-    requires { ⌜ Held width height (gridOf (now rows) (now cols) (now sads)) ⌝ }
-    ensures { λ r. ⌜ r ≡ windowsOk width height level superblock (now (rows .entry)) (now (cols .entry)) ⌝ }
-    ensures { λ r. ⌜ gridOf (now (rows .exit)) (now (cols .exit)) (now (sads .exit)) ≡ step (inputsOf width height level (now (cur .entry)) (now (reference .entry)) weight) (previousOf present (gridOf (now («prev_rows» .entry)) (now («prev_cols» .entry)) (now («prev_sads» .entry)))) superblock (gridOf (now (rows .entry)) (now (cols .entry)) (now (sads .entry))) ⌝ }
+    requires { ⌜ Ready (inputsIn (s .frame) (s .level) (now cur) (now reference)) × (s .superblock < superblocks (s .frame .width) (s .frame .height)) ⌝ }
+    requires { ⌜ HeldIf (s .frame .width) (s .frame .height) (previousIn (s .frame) (gridOf (now «prev_rows») (now «prev_cols») (now «prev_sads»))) ⌝ }
+    requires { ⌜ Held (s .frame .width) (s .frame .height) (gridOf (now rows) (now cols) (now sads)) ⌝ }
+    ensures { λ r. ⌜ r ≡ windowsOk (s .frame .width) (s .frame .height) (s .level) (s .superblock) (now (rows .entry)) (now (cols .entry)) ⌝ }
+    ensures { λ r. ⌜ gridOf (now (rows .exit)) (now (cols .exit)) (now (sads .exit)) ≡ step (inputsIn (s .frame) (s .level) (now (cur .entry)) (now (reference .entry))) (previousIn (s .frame) (gridOf (now («prev_rows» .entry)) (now («prev_cols» .entry)) (now («prev_sads» .entry)))) (s .superblock) (gridOf (now (rows .entry)) (now (cols .entry)) (now (sads .entry))) ⌝ }
 {
-    if !windows_ok(width, height, level, superblock, &*rows, &*cols) {
+    if !windows_ok(s, &*rows, &*cols) {
         return false;
     }
-    refine_sb_motion(
-        width,
-        height,
-        level,
-        superblock,
-        cur,
-        reference,
-        weight,
-        rows,
-        cols,
-        sads,
-    );
+    refine_sb_motion(s, cur, reference, rows, cols, sads);
     estimate_sb_motion(
-        width,
-        height,
-        level,
-        superblock,
+        s,
         cur,
         reference,
-        weight,
-        present,
         prev_rows,
         prev_cols,
         prev_sads,

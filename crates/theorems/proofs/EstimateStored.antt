@@ -14,7 +14,7 @@ use Rattle.motion.specs.Vector.{shlV}
 use Rattle.motion.specs.Level.{levelOf}
 use Rattle.motion.specs.Frame.{Side, Starts}
 use Rattle.motion.specs.Range.{inRange}
-use Rattle.motion.specs.Block.{blockOf}
+use Rattle.motion.specs.Block.{blockOf, weighed}
 use Rattle.motion.specs.Superblock.{superblocks, superblockX, superblockY}
 use Rattle.grid.specs.declared.cells.MEStats.{MEStats}
 use Rattle.grid.specs.Grid.{Grid, Held, cellAt, statsAt}
@@ -52,9 +52,9 @@ unfolding estimateMotion statsOf blockIn costIn
 estimate-stored {i} bytes p bx by g across down =
     let ready = bytes .ready in
     let sized = own-sized (ready .leveled) in
-    let b = blockOf (i .width) (i .height) (levelOf (i .level)) (levelOf (i .level) .«mv_size») bx by in
+    let b = weighed (blockOf (i .width) (i .height) (levelOf (i .level)) (levelOf (i .level) .«mv_size») bx by) (i .weight) in
     let mvs = subsetsOf (i .width) (i .height) (i .level) bx by (p .present) (p .grid) g in
-    let settled = fullPixelMe-settled b (i .cur) (i .ref) (i .weight) (block-zero ready sized across down) (block-lies ready sized across down .0 .measured) (bytes .cur) (bytes .ref) (bytes .weight) mvs (subsets-sound (i .width) (i .height) (i .level) bx by (p .present) (p .grid) g) (i .level) in
+    let settled = fullPixelMe-settled b (i .cur) (i .ref) (block-zero ready sized across down) (block-lies ready sized across down .0 .measured) (bytes .cur) (bytes .ref) (bytes .weight) mvs (subsets-sound (i .width) (i .height) (i .level) bx by (p .present) (p .grid) g) (i .level) in
     record { found = fullPixelMe (costIn i b) (i .level) mvs .mv; in-range = settled .in-range; is = refl }
 
 -- an earlier block along a side begins before a later one

@@ -6,6 +6,8 @@ use mathlib.Core.Bool.{true}
 use native.Mathlib.Omega.{arith}
 use lib.ListN.{length}
 use denote.Ref.{now}
+use mir.Syntax.{w32}
+use mir.Val.{Fits}
 use Rattle.motion.specs.declared.level.Level.{Level}
 use Rattle.motion.specs.declared.block.Block.{Block}
 use Rattle.motion.specs.Limits.{largestSample}
@@ -13,7 +15,7 @@ use Rattle.motion.specs.Vector.{zeroV}
 use Rattle.motion.specs.Range.{inRange}
 use Rattle.motion.specs.Level.{levelOf}
 use Rattle.motion.specs.Frame.{Sized}
-use Rattle.motion.specs.Block.{blockOf}
+use Rattle.motion.specs.Block.{blockOf, weighed}
 use Rattle.grid.specs.Grid.{gridOf}
 use Rattle.sad.specs.Asked.{Lies}
 use Rattle.sad.specs.Cost.{rdAt}
@@ -32,31 +34,36 @@ use Rattle.estimate.proofs.block.estimate_motion.Tie as tie
 -- the definition's block, predictors and result, at the entry
 module _ (c : tie.Start) where
   abbrev block : Block
-  block = blockOf (c .args .width) (c .args .height) (levelOf (c .args .level)) (levelOf (c .args .level) .«mv_size») (c .args .bx) (c .args .by)
+  block = weighed (blockOf (c .args .s .frame .width) (c .args .s .frame .height) (levelOf (c .args .s .level)) (levelOf (c .args .s .level) .«mv_size») (c .args .bx) (c .args .by)) (c .args .s .frame .weight)
 
   abbrev mvs : MotionEstimationSubsets
-  mvs = subsetsOf (c .args .width) (c .args .height) (c .args .level) (c .args .bx) (c .args .by) (c .args .present) (gridOf (now (c .args .prev-rows)) (now (c .args .prev-cols)) (now (c .args .prev-sads))) (gridOf (now (c .args .rows)) (now (c .args .cols)) (now (c .args .sads)))
+  mvs = subsetsOf (c .args .s .frame .width) (c .args .s .frame .height) (c .args .s .level) (c .args .bx) (c .args .by) (c .args .s .frame .present) (gridOf (now (c .args .prev-rows)) (now (c .args .prev-cols)) (now (c .args .prev-sads))) (gridOf (now (c .args .rows)) (now (c .args .cols)) (now (c .args .sads)))
 
   abbrev best : MotionSearchResult
-  best = fullPixelMe (rdAt block (now (c .args .cur)) (now (c .args .reference)) (c .args .weight)) (c .args .level) mvs
+  best = fullPixelMe (rdAt block (now (c .args .cur)) (now (c .args .reference))) (c .args .s .level) mvs
 
-  sized : Sized (levelOf (c .args .level)) (levelOf (c .args .level) .«mv_size»)
+  sized : Sized (levelOf (c .args .s .level)) (levelOf (c .args .s .level) .«mv_size»)
   sized = own-sized (c .pre .0 .leveled)
 
   sound : Sound mvs
-  sound = subsets-sound (c .args .width) (c .args .height) (c .args .level) (c .args .bx) (c .args .by) (c .args .present) (gridOf (now (c .args .prev-rows)) (now (c .args .prev-cols)) (now (c .args .prev-sads))) (gridOf (now (c .args .rows)) (now (c .args .cols)) (now (c .args .sads)))
+  sound = subsets-sound (c .args .s .frame .width) (c .args .s .frame .height) (c .args .s .level) (c .args .bx) (c .args .by) (c .args .s .frame .present) (gridOf (now (c .args .prev-rows)) (now (c .args .prev-cols)) (now (c .args .prev-sads))) (gridOf (now (c .args .rows)) (now (c .args .cols)) (now (c .args .sads)))
 
-block-is : (c : tie.After-block-of) → c .block-of .result ≡ block (c .before .before .before .before .before .before)
+-- the weight is a number of 32 bits
+weight-fits : (c : tie.Start) → Fits w32 (c .args .s .frame .weight)
+weight-fits c = search needs
+
+block-is : (c : tie.After-weighed) → c .weighed .result ≡ block (c .before .before .before .before .before .before .before)
 block-is c =
-    let a = c .before .before .before .before .before .before .args in
-    c .block-of .ensures ∙ ap (λ (l : Level). blockOf (a .width) (a .height) l (l .«mv_size») (a .bx) (a .by)) (c .before .level-of .ensures)
+    let a = c .before .before .before .before .before .before .before .args in
+    let made = c .before .block-of .ensures ∙ ap (λ (l : Level). blockOf (a .s .frame .width) (a .s .frame .height) l (l .«mv_size») (a .bx) (a .by)) (c .before .before .level-of .ensures) in
+    c .weighed .ensures ∙ ap (λ (b : Block). weighed b (a .s .frame .weight)) made
 
-best-is : (c : tie.After-full-pixel-me) → c .full-pixel-me .result ≡ best (c .before .before .before .before .before .before .before .before)
+best-is : (c : tie.After-full-pixel-me) → c .full-pixel-me .result ≡ best (c .before .before .before .before .before .before .before .before .before)
 best-is c =
     let p = c .before in
-    let a = p .before .before .before .before .before .before .before .args in
+    let a = p .before .before .before .before .before .before .before .before .args in
     c .full-pixel-me .ensures
-    ∙ ap₂ (λ (b : Block) (m : MotionEstimationSubsets). fullPixelMe (rdAt b (now (a .cur)) (now (a .reference)) (a .weight)) (a .level) m) (block-is (p .before)) (p .get-subset-predictors .ensures)
+    ∙ ap₂ (λ (b : Block) (m : MotionEstimationSubsets). fullPixelMe (rdAt b (now (a .cur)) (now (a .reference))) (a .s .level) m) (block-is (p .before)) (p .get-subset-predictors .ensures)
 
 level-of-requires : tie.Need-level-of-requires
 level-of-requires c κs = search needs
@@ -66,19 +73,22 @@ block-of-requires c κs =
     let entry = c .before .before .before .before .before in
     let ready = entry .pre .0 in
     let starts = entry .pre .1 .1 .0 in
-    let small = level-most (entry .args .level) in
+    let small = level-most (entry .args .s .level) in
     (place-most (ready .wide) (ready .high) (starts .0) (starts .1), rw (c .level-of .ensures) (omega arith))
+
+weighed-requires : tie.Need-weighed-requires
+weighed-requires c κs = search needs
 
 get-subset-predictors-requires : tie.Need-get-subset-predictors-requires
 get-subset-predictors-requires c κs =
-    let entry = c .before .before .before .before .before .before in
+    let entry = c .before .before .before .before .before .before .before in
     let ready = entry .pre .0 in
     let starts = entry .pre .1 .1 .0 in
     (record { wide = ready .wide; high = ready .high; sized = sized entry; across = starts .0; down = starts .1 }, (entry .pre .1 .0, entry .pre .1 .1 .1))
 
 full-pixel-me-requires : tie.Need-full-pixel-me-requires
 full-pixel-me-requires c κs =
-    let entry = c .before .before .before .before .before .before .before in
+    let entry = c .before .before .before .before .before .before .before .before in
     let a = entry .args in
     let starts = entry .pre .1 .1 .0 in
     let here = sym (block-is (c .before)) in (
@@ -92,7 +102,7 @@ full-pixel-me-requires c κs =
 stats-of-requires : tie.Need-stats-of-requires
 stats-of-requires c κs =
     let at = c .before .before in
-    let second = at .before .before .before .before in
+    let second = at .before .before .before .before .before in
     let entry = second .before .before in
     let a = entry .args in
     let cur = now (a .cur) in
@@ -103,16 +113,16 @@ stats-of-requires c κs =
     let hr : Under largestSample ref = λ i. omega (arith, second .shared-slice-known2 .given i) in
     let z = block-zero ready (sized entry) (starts .0) (starts .1) in
     let m = block-lies ready (sized entry) (starts .0) (starts .1) .0 .measured in
-    let s = fullPixelMe-settled (block entry) cur ref (a .weight) z m hc hr (omega (arith, entry .fits .weight)) (mvs entry) (sound entry) (a .level) in
-    block-saves ready (sized entry) (starts .0) (starts .1) (at .before .level-of .ensures) (block-is at) hc hr
-    (subst (Settled (block entry) cur ref (a .weight)) (sym (best-is c)) s)
+    let s = fullPixelMe-settled (block entry) cur ref z m hc hr (omega (arith, weight-fits entry .fits)) (mvs entry) (sound entry) (a .s .level) in
+    block-saves ready (sized entry) (starts .0) (starts .1) (at .before .before .level-of .ensures) (block-is at) hc hr
+    (subst (Settled (block entry) cur ref) (sym (best-is c)) s)
 
 returns : tie.Need-returns
 unfolding estimateMotion blockIn costIn
 returns c =
     let found = c .before in
     let at = found .before .before in
-    let level = at .before .level-of .ensures in
+    let level = at .before .before .level-of .ensures in
     c .stats-of .ensures ∙ (λ i. statsOf (level i .ssdec) (block-is at i .w) (block-is at i .h) (best-is found i))
 
 pub estimate-motion-spec : {M : Type 1} → statement M
@@ -121,6 +131,7 @@ estimate-motion-spec =
     (tie.spec
     level-of-requires
     block-of-requires
+    weighed-requires
     get-subset-predictors-requires
     full-pixel-me-requires
     stats-of-requires

@@ -37,7 +37,7 @@ module _ (rd : CostOf) (p : MotionEstimationSubsets) where
   at-last g h = rw (le-ltb (near .rd .sad) (p .threshold) g, le-ltb (kept .rd .sad) (p .threshold) h)
 
 abbrev cost : tie.Start → CostOf
-cost c = rdAt (c .args .b) (now (c .args .cur)) (now (c .args .reference)) (c .args .weight)
+cost c = rdAt (c .args .b) (now (c .args .cur)) (now (c .args .reference))
 
 near-is : (c : tie.After-try-cands) → c .try-cands .result ≡ near (cost (c .before .before .before .before .before)) (c .before .before .before .before .before .args .p)
 near-is c = c .try-cands .ensures
@@ -80,7 +80,7 @@ uneven-multi-hex-search-requires c κs =
     let at = c .before .before .before in
     let entry = at .before .before .before .before .before .before .before .before .before .before in
     let a = entry .args in
-    let loose = loose-extensive (a .b) (now (a .cur)) (now (a .reference)) (a .weight) (entry .pre .1 .1) (a .p) in
+    let loose = loose-extensive (a .b) (now (a .cur)) (now (a .reference)) (entry .pre .1 .1) (a .p) in
     (entry .pre .0, subst (Ranged (a .b)) (sym (kept-is at)) (loose .holds .in-range))
 
 returns-3 : tie.Need-returns-3

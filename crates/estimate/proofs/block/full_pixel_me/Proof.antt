@@ -27,7 +27,7 @@ extensive-search-requires c κs = search needs
 returns : tie.Need-returns
 returns c =
     let a = c .before .before .before .before .args in
-    c .extensive-search .ensures ∙ sym (at-four (rdAt (a .b) (now (a .cur)) (now (a .reference)) (a .weight)) (a .level) (a .p) (c .before .if1 .taken))
+    c .extensive-search .ensures ∙ sym (at-four (rdAt (a .b) (now (a .cur)) (now (a .reference))) (a .level) (a .p) (c .before .if1 .taken))
 
 short-search-requires : tie.Need-short-search-requires
 short-search-requires c κs = search needs
@@ -35,7 +35,7 @@ short-search-requires c κs = search needs
 returns-2 : tie.Need-returns-2
 returns-2 c =
     let a = c .before .before .before .before .args in
-    c .short-search .ensures ∙ sym (not-at-four (rdAt (a .b) (now (a .cur)) (now (a .reference)) (a .weight)) (a .level) (a .p) (c .before .if1 .left))
+    c .short-search .ensures ∙ sym (not-at-four (rdAt (a .b) (now (a .cur)) (now (a .reference))) (a .level) (a .p) (c .before .if1 .left))
 
 pub full-pixel-me-spec : {M : Type 1} → statement M
 full-pixel-me-spec =

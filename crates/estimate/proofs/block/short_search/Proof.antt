@@ -15,7 +15,7 @@ use Rattle.estimate.proofs.block.short_search.Statement.{statement}
 use Rattle.estimate.proofs.block.short_search.Tie as tie
 
 abbrev cost : tie.Start → CostOf
-cost c = rdAt (c .args .b) (now (c .args .cur)) (now (c .args .reference)) (c .args .weight)
+cost c = rdAt (c .args .b) (now (c .args .cur)) (now (c .args .reference))
 
 abbrev middle : tie.Start → MotionSearchResult
 middle c = tryOne (cost c) emptyResult (c .args .p .center)
@@ -52,21 +52,21 @@ try-mvs-requires : tie.Need-try-mvs-requires
 try-mvs-requires c κs =
     let entry = c .before .before .before .before .before .before in
     let a = entry .args in
-    let loose = loose-centre (a .b) (now (a .cur)) (now (a .reference)) (a .weight) (entry .pre .1 .1) (a .p) in
+    let loose = loose-centre (a .b) (now (a .cur)) (now (a .reference)) (entry .pre .1 .1) (a .p) in
     (search needs, (search needs, search needs, subst (Honest (cost entry)) (sym (middle-is c)) (loose .holds .own)))
 
 try-mvs-requires-2 : tie.Need-try-mvs-requires-2
 try-mvs-requires-2 c κs =
     let entry = c .before .before .before .before .before .before .before in
     let a = entry .args in
-    let loose = loose-near (a .b) (now (a .cur)) (now (a .reference)) (a .weight) (entry .pre .1 .1) (a .p) in
+    let loose = loose-near (a .b) (now (a .cur)) (now (a .reference)) (entry .pre .1 .1) (a .p) in
     (search needs, (search needs, search needs, subst (Honest (cost entry)) (sym (near-is c)) (loose .holds .own)))
 
 fullpel-diamond-search-requires : tie.Need-fullpel-diamond-search-requires
 fullpel-diamond-search-requires c κs =
     let entry = c .before .before .before .before .before .before .before .before in
     let a = entry .args in
-    let kept = loose-short (a .b) (now (a .cur)) (now (a .reference)) (a .weight) (entry .pre .1 .1) (a .p) in
+    let kept = loose-short (a .b) (now (a .cur)) (now (a .reference)) (entry .pre .1 .1) (a .p) in
     (entry .pre .0, subst (Ranged (a .b)) (sym (tried c)) (kept .holds .in-range))
 
 returns : tie.Need-returns

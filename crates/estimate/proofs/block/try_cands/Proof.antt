@@ -16,7 +16,7 @@ use Rattle.estimate.proofs.block.try_cands.Statement.{statement}
 use Rattle.estimate.proofs.block.try_cands.Tie as tie
 
 abbrev cost : tie.Start → CostOf
-cost c = rdAt (c .args .b) (now (c .args .cur)) (now (c .args .reference)) (c .args .weight)
+cost c = rdAt (c .args .b) (now (c .args .cur)) (now (c .args .reference))
 
 tried : (c : tie.After-try-mvs) → c .try-mvs .result ≡ tryMvs (cost (c .before .before .before .before)) emptyResult (c .before .before .before .before .args .mvs) (c .before .before .before .before .args .count)
 tried c =
@@ -27,8 +27,8 @@ empty-requires : tie.Need-empty-requires
 empty-requires c κs = search needs
 
 -- the empty best has zero in range, and costs the most
-first : (c : tie.Start) → LooseKept (c .args .b) (now (c .args .cur)) (now (c .args .reference)) (c .args .weight) emptyResult
-first c = loose-empty (c .args .b) (now (c .args .cur)) (now (c .args .reference)) (c .args .weight) (c .pre .1 .2)
+first : (c : tie.Start) → LooseKept (c .args .b) (now (c .args .cur)) (now (c .args .reference)) emptyResult
+first c = loose-empty (c .args .b) (now (c .args .cur)) (now (c .args .reference)) (c .pre .1 .2)
 
 try-mvs-requires : tie.Need-try-mvs-requires
 try-mvs-requires c κs =
@@ -39,7 +39,7 @@ fullpel-diamond-search-requires : tie.Need-fullpel-diamond-search-requires
 fullpel-diamond-search-requires c κs =
     let entry = c .before .before .before .before in
     let a = entry .args in
-    let kept = loose-mvs (a .b) (now (a .cur)) (now (a .reference)) (a .weight) emptyResult (a .mvs) (a .count) (first entry) in
+    let kept = loose-mvs (a .b) (now (a .cur)) (now (a .reference)) emptyResult (a .mvs) (a .count) (first entry) in
     (entry .pre .0, subst (Ranged (a .b)) (sym (tried c)) (kept .holds .in-range))
 
 returns : tie.Need-returns

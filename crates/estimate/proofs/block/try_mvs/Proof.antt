@@ -18,19 +18,19 @@ use Rattle.estimate.proofs.block.try_mvs.Statement.{statement}
 use Rattle.estimate.proofs.block.try_mvs.Tie as tie
 
 abbrev Inv-loop : tie.InvT-loop
-Inv-loop b cur reference weight count mvs best₀ k₀ best k =
+Inv-loop b cur reference count mvs best₀ k₀ best k =
     (k ≤ count)
-    × (best ≡ tryEach (rdAt b cur reference weight) best₀ k (λ j. getD mvs j zeroV))
-    × Honest (rdAt b cur reference weight) best
+    × (best ≡ tryEach (rdAt b cur reference) best₀ k (λ j. getD mvs j zeroV))
+    × Honest (rdAt b cur reference) best
 
 abbrev μ-loop : tie.MeasureT-loop
-μ-loop b cur reference weight count mvs best₀ k₀ best k = count - k
+μ-loop b cur reference count mvs best₀ k₀ best k = count - k
 
 loop-holds : tie.Need-loop-holds Inv-loop μ-loop
 loop-holds c =
     let a = c .before .before .args in
-    let vs : ℕ → MotionVector = λ j. getD (a .t6) j zeroV in
-    (omega arith, sym (each-none (rdAt (a .b) (now (a .cur)) (now (a .reference)) (a .weight)) (a .current) vs), c .before .before .pre .1 .2)
+    let vs : ℕ → MotionVector = λ j. getD (a .t5) j zeroV in
+    (omega arith, sym (each-none (rdAt (a .b) (now (a .cur)) (now (a .reference))) (a .current) vs), c .before .before .pre .1 .2)
 
 mul-try-unless-best : tie.Need-mul-try-unless-best Inv-loop μ-loop
 mul-try-unless-best c = omega arith
@@ -53,8 +53,8 @@ loop-again : tie.Need-loop-again Inv-loop μ-loop
 loop-again c =
     let at = c .before .before .before in
     let a = at .before .before .before .args in
-    let rd = rdAt (a .b) (now (a .cur)) (now (a .reference)) (a .weight) in
-    let vs : ℕ → MotionVector = λ j. getD (a .t6) j zeroV in
+    let rd = rdAt (a .b) (now (a .cur)) (now (a .reference)) in
+    let vs : ℕ → MotionVector = λ j. getD (a .t5) j zeroV in
     let tried = c .try-unless-best .ensures in (
       omega arith,
       tried ∙ ap (λ (m : MotionSearchResult). tryOne rd m (vs (at .loop .k))) (at .loop .inv .1) ∙ sym (each-more rd (a .current) (at .loop .k) vs),
@@ -66,8 +66,8 @@ unfolding tryMvs
 returns c =
     let at = c .before in
     let a = at .before .before .before .args in
-    let rd = rdAt (a .b) (now (a .cur)) (now (a .reference)) (a .weight) in
-    let vs : ℕ → MotionVector = λ j. getD (a .t6) j zeroV in
+    let rd = rdAt (a .b) (now (a .cur)) (now (a .reference)) in
+    let vs : ℕ → MotionVector = λ j. getD (a .t5) j zeroV in
     let done : at .loop .k ≡ a .count = omega arith in
     at .loop .inv .1 ∙ ap (λ (n : ℕ). tryEach rd (a .current) n vs) done
 

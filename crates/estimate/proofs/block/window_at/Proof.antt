@@ -18,7 +18,7 @@ level-of-requires c κs = search needs
 block-of-requires : tie.Need-block-of-requires
 block-of-requires c κs =
     let entry = c .before in
-    let small = level-most (entry .args .level) in
+    let small = level-most (entry .args .s .level) in
     let starts = entry .pre .1 .0 in
     (place-most (entry .pre .0 .0) (entry .pre .0 .1) (starts .0) (starts .1), rw (c .level-of .ensures) (omega arith))
 
@@ -32,7 +32,7 @@ first-stored-requires c κs =
 refine-window-requires : tie.Need-refine-window-requires
 refine-window-requires c κs =
     let first = c .before .before in
-    rw (first .level-of .ensures) (level-most (first .before .args .level) .0)
+    rw (first .level-of .ensures) (level-most (first .before .args .s .level) .0)
 
 returns : tie.Need-returns
 unfolding windowAt
@@ -41,8 +41,8 @@ returns c =
     let block = stored .before in
     let first = block .before in
     let a = first .before .args in
-    let level : first .level-of .result ≡ levelOf (a .level) = first .level-of .ensures in
-    let here : block .block-of .result ≡ blockOf (a .width) (a .height) (levelOf (a .level)) (levelOf (a .level) .refined) (a .bx) (a .by) = block .block-of .ensures ∙ ap (λ (l : Level). blockOf (a .width) (a .height) l (l .refined) (a .bx) (a .by)) level in
+    let level : first .level-of .result ≡ levelOf (a .s .level) = first .level-of .ensures in
+    let here : block .block-of .result ≡ blockOf (a .s .frame .width) (a .s .frame .height) (levelOf (a .s .level)) (levelOf (a .s .level) .refined) (a .bx) (a .by) = block .block-of .ensures ∙ ap (λ (l : Level). blockOf (a .s .frame .width) (a .s .frame .height) l (l .refined) (a .bx) (a .by)) level in
     c .refine-window .ensures ∙ (λ i. refineWindow (here i .range) (stored .first-stored .ensures i) (level i .ssdec))
 
 pub window-at-spec : {M : Type 1} → statement M

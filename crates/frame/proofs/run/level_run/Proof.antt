@@ -9,8 +9,8 @@ use lib.ListN.{length, take, getD}
 use lib.Seq.{take-all}
 use denote.Ref.{now}
 use Rattle.grid.specs.Grid.{Grid, gridOf}
-use Rattle.grid.specs.Previous.{Previous, previousOf}
-use Rattle.estimate.specs.Inputs.{Inputs, inputsOf}
+use Rattle.grid.specs.Previous.{Previous}
+use Rattle.estimate.specs.Inputs.{Inputs, inputsIn, previousIn}
 use Rattle.superblock.specs.Step.{step}
 use Rattle.superblock.proofs.StepLaws.{AsLong, held-long}
 use Rattle.frame.specs.Run.{levelRun}
@@ -19,22 +19,22 @@ use Rattle.frame.proofs.run.level_run.Statement.{statement}
 use Rattle.frame.proofs.run.level_run.Tie as tie
 
 abbrev Inv-loop : tie.InvT-loop
-Inv-loop width height level cur reference weight present prev-rows prev-cols prev-sads list rows₀ cols₀ sads₀ k₀ rows cols sads k =
-    (k ≤ length list) × (gridOf rows cols sads ≡ levelRun (inputsOf width height level cur reference weight) (previousOf present (gridOf prev-rows prev-cols prev-sads)) (take k list) (gridOf rows₀ cols₀ sads₀))
+Inv-loop frame level cur reference prev-rows prev-cols prev-sads list rows₀ cols₀ sads₀ k₀ rows cols sads k =
+    (k ≤ length list) × (gridOf rows cols sads ≡ levelRun (inputsIn frame level cur reference) (previousIn frame (gridOf prev-rows prev-cols prev-sads)) (take k list) (gridOf rows₀ cols₀ sads₀))
 
 abbrev μ-loop : tie.MeasureT-loop
-μ-loop width height level cur reference weight present prev-rows prev-cols prev-sads list rows₀ cols₀ sads₀ k₀ rows cols sads k = length list - k
+μ-loop frame level cur reference prev-rows prev-cols prev-sads list rows₀ cols₀ sads₀ k₀ rows cols sads k = length list - k
 
 -- the inputs, the previous grid and the grid at entry
 abbrev inputs : tie.Start Inv-loop μ-loop → Inputs
 inputs c =
     let a = c .args in
-    inputsOf (a .width) (a .height) (a .level) (now (a .cur)) (now (a .reference)) (a .weight)
+    inputsIn (a .frame) (a .level) (now (a .cur)) (now (a .reference))
 
 abbrev previous : tie.Start Inv-loop μ-loop → Previous
 previous c =
     let a = c .args in
-    previousOf (a .present) (gridOf (now (a .prev-rows)) (now (a .prev-cols)) (now (a .prev-sads)))
+    previousIn (a .frame) (gridOf (now (a .prev-rows)) (now (a .prev-cols)) (now (a .prev-sads)))
 
 abbrev first : tie.Start Inv-loop μ-loop → Grid
 first c = gridOf (now (c .args .rows)) (now (c .args .cols)) (now (c .args .sads))
@@ -75,7 +75,7 @@ superblock-step-requires c κs =
 add-k : tie.Need-add-k Inv-loop μ-loop
 add-k c =
     let turn = c .before .before .before .before .before .before .before .before .before in
-    omega (arith, turn .loop-test .taken, entry (turn .before) .good .1 .1 .1 .1 .1 .1 .1 .1 .1 .1 .0 .0)
+    omega (arith, turn .loop-test .taken, entry (turn .before) .good .1 .1 .1 .1 .1 .1 .1 .0 .0)
 
 loop-less : tie.Need-loop-less Inv-loop μ-loop
 loop-less c = omega arith

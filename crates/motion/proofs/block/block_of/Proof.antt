@@ -71,6 +71,7 @@ returns c =
       stride = plane i .stride;
       pad = plane i .pad;
       range = (range ∙ ap₂ (λ (w h : ℕ). rangeOf (a .width / cellSide) (a .height / cellSide) (a .bx) (a .by) w h (a .level .ssdec)) across down) i;
+      weight = 0;
     }
 
 pub block-of-spec : {M : Type 1} → statement M

@@ -26,7 +26,7 @@ returns c =
     let held = c .before .before in
     let a = held .before .before .before .args in
     c .empty .ensures
-    ∙ sym (rd-out (a .b) (now (a .cur)) (now (a .reference)) (a .weight) (a .cand-mv) (failed (held .holds .ensures) (c .before .if1 .taken)))
+    ∙ sym (rd-out (a .b) (now (a .cur)) (now (a .reference)) (a .cand-mv) (failed (held .holds .ensures) (c .before .if1 .taken)))
 
 org-start-requires : tie.Need-org-start-requires
 org-start-requires c κs = search needs
@@ -50,8 +50,8 @@ returns-2 c =
     let a = starts .before .before .before .before .before .before .args in
     let held = in-range (starts .before .before) in
     let sad = sad-from (a .b) (a .cand-mv) held _ _ (starts .before .org-start .ensures) (starts .ref-start .ensures) (now (a .cur)) (now (a .reference)) (c .before .get-sad .ensures) in
-    c .compute-mv-rd .ensures ∙ ap (λ (s : ℕ). rdOf (a .weight) s (a .cand-mv)) sad
-    ∙ sym (rd-in (a .b) (now (a .cur)) (now (a .reference)) (a .weight) (a .cand-mv) held)
+    c .compute-mv-rd .ensures ∙ ap (λ (s : ℕ). rdOf (a .b .weight) s (a .cand-mv)) sad
+    ∙ sym (rd-in (a .b) (now (a .cur)) (now (a .reference)) (a .cand-mv) held)
 
 pub get-fullpel-mv-rd-spec : {M : Type 1} → statement M
 get-fullpel-mv-rd-spec =

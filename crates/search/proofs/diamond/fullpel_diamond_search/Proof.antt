@@ -15,12 +15,12 @@ use Rattle.search.proofs.diamond.fullpel_diamond_search.Statement.{stat
 use Rattle.search.proofs.diamond.fullpel_diamond_search.Tie as tie
 
 abbrev Inv-loop : tie.InvT-loop
-Inv-loop b cur reference weight current₀ diamond-radius-log2₀ current diamond-radius-log2 =
-    (diamond-radius-log2 ≤ 1) × Kept (rdAt b cur reference weight) (Ranged b) (ranged b cur reference weight) current
-    × (diamondAt (rdAt b cur reference weight) diamond-radius-log2 current ≡ diamondAt (rdAt b cur reference weight) diamond-radius-log2₀ current₀)
+Inv-loop b cur reference current₀ diamond-radius-log2₀ current diamond-radius-log2 =
+    (diamond-radius-log2 ≤ 1) × Kept (rdAt b cur reference) (Ranged b) (ranged b cur reference) current
+    × (diamondAt (rdAt b cur reference) diamond-radius-log2 current ≡ diamondAt (rdAt b cur reference) diamond-radius-log2₀ current₀)
 
 abbrev μ-loop : tie.MeasureT-loop
-μ-loop b cur reference weight current₀ diamond-radius-log2₀ current diamond-radius-log2 = current .rd .cost + diamond-radius-log2
+μ-loop b cur reference current₀ diamond-radius-log2₀ current diamond-radius-log2 = current .rd .cost + diamond-radius-log2
 
 loop-holds : tie.Need-loop-holds Inv-loop μ-loop
 loop-holds c =
@@ -41,8 +41,8 @@ loop-again c =
     let at = c .before .before .before in
     let turn = at .before .loop in
     let a = at .before .before .before .before .args in
-    let rd = rdAt (a .b) (now (a .cur)) (now (a .reference)) (a .weight) in
-    let kept = ranged (a .b) (now (a .cur)) (now (a .reference)) (a .weight) in
+    let rd = rdAt (a .b) (now (a .cur)) (now (a .reference)) in
+    let kept = ranged (a .b) (now (a .cur)) (now (a .reference)) in
     let r = turn .diamond-radius-log2 in
     let round = at .diamond-round .ensures in
     let less : diamondBest rd r (turn .current .mv) .rd .cost < turn .current .rd .cost = omega (arith, c .if1 .taken, ap (λ (m : MotionSearchResult). m .rd .cost) round) in (
@@ -62,7 +62,7 @@ loop-again-2 c =
     let at = c .before .before .before .before in
     let turn = at .before .loop in
     let a = at .before .before .before .before .args in
-    let rd = rdAt (a .b) (now (a .cur)) (now (a .reference)) (a .weight) in
+    let rd = rdAt (a .b) (now (a .cur)) (now (a .reference)) in
     let r = turn .diamond-radius-log2 in
     let more : r ≡ suc (r - 1) = omega arith in
     let round = ap (λ (m : MotionSearchResult). m .rd .cost) (at .diamond-round .ensures ∙ ap (λ (n : ℕ). diamondBest rd n (turn .current .mv)) more) in (
@@ -78,7 +78,7 @@ returns c =
     let at = c .before .before .before .before in
     let turn = at .before .loop in
     let a = at .before .before .before .before .args in
-    let rd = rdAt (a .b) (now (a .cur)) (now (a .reference)) (a .weight) in
+    let rd = rdAt (a .b) (now (a .cur)) (now (a .reference)) in
     let last = c .if2 .taken in
     let round = ap (λ (m : MotionSearchResult). m .rd .cost) (at .diamond-round .ensures ∙ ap (λ (n : ℕ). diamondBest rd n (turn .current .mv)) last) in
     sym (diamond-stops rd (turn .current) (omega (arith, c .before .if1 .left, round))) ∙ ap (λ (n : ℕ). diamondAt rd n (turn .current)) (sym last) ∙ turn .inv .2

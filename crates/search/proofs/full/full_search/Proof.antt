@@ -19,11 +19,11 @@ use Rattle.search.proofs.full.full_search.Statement.{statement}
 use Rattle.search.proofs.full.full_search.Tie as tie
 
 abbrev Inv-loop : tie.InvT-loop
-Inv-loop b cur reference weight cols lo n best₀ k₀ best k =
-    (k ≤ n) × (best ≡ windowTo (rdAt b cur reference weight) (record { lo = toZ w16 lo; count = n }) cols k)
+Inv-loop b cur reference cols lo n best₀ k₀ best k =
+    (k ≤ n) × (best ≡ windowTo (rdAt b cur reference) (record { lo = toZ w16 lo; count = n }) cols k)
 
 abbrev μ-loop : tie.MeasureT-loop
-μ-loop b cur reference weight cols lo n best₀ k₀ best k = n - k
+μ-loop b cur reference cols lo n best₀ k₀ best k = n - k
 
 empty-requires : tie.Need-empty-requires Inv-loop μ-loop
 empty-requires c κs = search needs
@@ -31,7 +31,7 @@ empty-requires c κs = search needs
 loop-holds : tie.Need-loop-holds Inv-loop μ-loop
 loop-holds c =
     let a = c .before .before .before .before .before .before .args in
-    (omega arith, c .empty .ensures ∙ sym (window-none (rdAt (a .b) (now (a .cur)) (now (a .reference)) (a .weight)) (record { lo = toZ w16 (ofZ w16 (a .window .rows .lo)); count = a .window .rows .count }) (a .window .cols)))
+    (omega arith, c .empty .ensures ∙ sym (window-none (rdAt (a .b) (now (a .cur)) (now (a .reference))) (record { lo = toZ w16 (ofZ w16 (a .window .rows .lo)); count = a .window .rows .count }) (a .window .cols)))
 
 span-at-requires : tie.Need-span-at-requires Inv-loop μ-loop
 span-at-requires c κs =
@@ -57,8 +57,8 @@ loop-again c =
     let a = turn .before .before .before .before .before .before .before .args in
     let row = back w16 (c .before .span-at .result) (c .before .span-at .ok) ∙ c .before .span-at .ensures in (
       omega arith,
-      c .search-row .ensures ∙ ap₂ (λ (m : MotionSearchResult) (z : ℤ). rowOf (rdAt (a .b) (now (a .cur)) (now (a .reference)) (a .weight)) m z (a .window .cols)) (turn .loop .inv .1) row
-          ∙ sym (window-more (rdAt (a .b) (now (a .cur)) (now (a .reference)) (a .weight)) (record { lo = toZ w16 (ofZ w16 (a .window .rows .lo)); count = a .window .rows .count }) (a .window .cols) (turn .loop .k)),
+      c .search-row .ensures ∙ ap₂ (λ (m : MotionSearchResult) (z : ℤ). rowOf (rdAt (a .b) (now (a .cur)) (now (a .reference))) m z (a .window .cols)) (turn .loop .inv .1) row
+          ∙ sym (window-more (rdAt (a .b) (now (a .cur)) (now (a .reference))) (record { lo = toZ w16 (ofZ w16 (a .window .rows .lo)); count = a .window .rows .count }) (a .window .cols) (turn .loop .k)),
     )
 
 returns : tie.Need-returns Inv-loop μ-loop
@@ -69,7 +69,7 @@ returns c =
     let fits : SFits w16 (a .window .rows .lo) = search needs in
     let done : c .before .loop .k ≡ a .window .rows .count = omega arith in
     c .before .loop .inv .1
-    ∙ λ i. windowTo (rdAt (a .b) (now (a .cur)) (now (a .reference)) (a .weight)) (record { lo = toZ-ofZ w16 (a .window .rows .lo) fits i; count = a .window .rows .count }) (a .window .cols) (done i)
+    ∙ λ i. windowTo (rdAt (a .b) (now (a .cur)) (now (a .reference))) (record { lo = toZ-ofZ w16 (a .window .rows .lo) fits i; count = a .window .rows .count }) (a .window .cols) (done i)
 
 pub full-search-spec : {M : Type 1} → statement M
 full-search-spec =

@@ -22,16 +22,16 @@ use Rattle.search.proofs.full.search_row.Statement.{statement}
 use Rattle.search.proofs.full.search_row.Tie as tie
 
 abbrev Inv-loop : tie.InvT-loop
-Inv-loop b cur reference weight row lo n best₀ k₀ best k =
-    (k ≤ n) × (best ≡ tryEach (rdAt b cur reference weight) best₀ k (λ j. vector (toZ w16 row) (spanAt (toZ w16 lo) j)))
+Inv-loop b cur reference row lo n best₀ k₀ best k =
+    (k ≤ n) × (best ≡ tryEach (rdAt b cur reference) best₀ k (λ j. vector (toZ w16 row) (spanAt (toZ w16 lo) j)))
 
 abbrev μ-loop : tie.MeasureT-loop
-μ-loop b cur reference weight row lo n best₀ k₀ best k = n - k
+μ-loop b cur reference row lo n best₀ k₀ best k = n - k
 
 loop-holds : tie.Need-loop-holds Inv-loop μ-loop
 loop-holds c =
     let a = c .before .before .before .args in
-    (omega arith, sym (each-none (rdAt (a .b) (now (a .cur)) (now (a .reference)) (a .weight)) (a .current) (λ j. vector (toZ w16 (ofZ w16 (a .row))) (spanAt (toZ w16 (ofZ w16 (a .cols .lo))) j))))
+    (omega arith, sym (each-none (rdAt (a .b) (now (a .cur)) (now (a .reference))) (a .current) (λ j. vector (toZ w16 (ofZ w16 (a .row))) (spanAt (toZ w16 (ofZ w16 (a .cols .lo))) j))))
 
 span-at-requires : tie.Need-span-at-requires Inv-loop μ-loop
 span-at-requires c κs =
@@ -53,7 +53,7 @@ loop-again : tie.Need-loop-again Inv-loop μ-loop
 loop-again c =
     let turn = c .before .before .before in
     let a = turn .before .before .before .before .args in
-    let rd = rdAt (a .b) (now (a .cur)) (now (a .reference)) (a .weight) in
+    let rd = rdAt (a .b) (now (a .cur)) (now (a .reference)) in
     let row = toZ w16 (ofZ w16 (a .row)) in
     let col = back w16 (c .before .span-at .result) (c .before .span-at .ok) ∙ c .before .span-at .ensures in (
       omega arith,
@@ -69,7 +69,7 @@ returns c =
     let lo : SFits w16 (a .cols .lo) = search needs in
     let done : c .before .loop .k ≡ a .cols .count = omega arith in
     c .before .loop .inv .1
-    ∙ λ i. tryEach (rdAt (a .b) (now (a .cur)) (now (a .reference)) (a .weight)) (a .current) (done i) (λ j. vector (toZ-ofZ w16 (a .row) (entry .fits .row) i) (spanAt (toZ-ofZ w16 (a .cols .lo) lo i) j))
+    ∙ λ i. tryEach (rdAt (a .b) (now (a .cur)) (now (a .reference))) (a .current) (done i) (λ j. vector (toZ-ofZ w16 (a .row) (entry .fits .row) i) (spanAt (toZ-ofZ w16 (a .cols .lo) lo i) j))
 
 pub search-row-spec : {M : Type 1} → statement M
 search-row-spec =

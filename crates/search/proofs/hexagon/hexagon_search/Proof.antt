@@ -14,13 +14,13 @@ use Rattle.search.proofs.hexagon.hexagon_search.Statement.{statement}
 use Rattle.search.proofs.hexagon.hexagon_search.Tie as tie
 
 abbrev Inv-loop : tie.InvT-loop
-Inv-loop b cur reference weight current₀ cand₀ current cand =
-    (cand .idx < 6) × Kept (rdAt b cur reference weight) (Ranged b) (ranged b cur reference weight) current
-    × Sound (rdAt b cur reference weight) (Ranged b) (ranged b cur reference weight) (cand .best)
-    × (hexagonAt (rdAt b cur reference weight) current cand ≡ hexagonAt (rdAt b cur reference weight) current₀ cand₀)
+Inv-loop b cur reference current₀ cand₀ current cand =
+    (cand .idx < 6) × Kept (rdAt b cur reference) (Ranged b) (ranged b cur reference) current
+    × Sound (rdAt b cur reference) (Ranged b) (ranged b cur reference) (cand .best)
+    × (hexagonAt (rdAt b cur reference) current cand ≡ hexagonAt (rdAt b cur reference) current₀ cand₀)
 
 abbrev μ-loop : tie.MeasureT-loop
-μ-loop b cur reference weight current₀ cand₀ current cand = current .rd .cost
+μ-loop b cur reference current₀ cand₀ current cand = current .rd .cost
 
 hexagon-six-requires : tie.Need-hexagon-six-requires Inv-loop μ-loop
 hexagon-six-requires c κs =
@@ -30,8 +30,8 @@ hexagon-six-requires c κs =
 loop-holds : tie.Need-loop-holds Inv-loop μ-loop
 loop-holds c =
     let a = c .before .before .before .args in
-    let rd = rdAt (a .b) (now (a .cur)) (now (a .reference)) (a .weight) in
-    let in-range = ranged (a .b) (now (a .cur)) (now (a .reference)) (a .weight) in
+    let rd = rdAt (a .b) (now (a .cur)) (now (a .reference)) in
+    let in-range = ranged (a .b) (now (a .cur)) (now (a .reference)) in
     let six = sym (c .hexagon-six .ensures) in
     let most : a .start .rd .cost ≤ mostCost = omega (arith, c .before .before .before) in (
       subst (λ (m : HexCand). m .idx < 6) six (six-small rd (a .start .mv)),
@@ -54,8 +54,8 @@ loop-again : tie.Need-loop-again Inv-loop μ-loop
 loop-again c =
     let turn = c .before .before .before .before .before in
     let a = turn .before .before .before .before .args in
-    let rd = rdAt (a .b) (now (a .cur)) (now (a .reference)) (a .weight) in
-    let in-range = ranged (a .b) (now (a .cur)) (now (a .reference)) (a .weight) in
+    let rd = rdAt (a .b) (now (a .cur)) (now (a .reference)) in
+    let in-range = ranged (a .b) (now (a .cur)) (now (a .reference)) in
     let best = turn .loop .cand .best in
     let less = c .before .before .if1 .taken in
     let three = sym (c .hexagon-three .ensures) in
@@ -77,7 +77,7 @@ unfolding hexagon
 returns c =
     let turn = c .before .before .before .before in
     let a = turn .before .before .before .before .args in
-    let rd = rdAt (a .b) (now (a .cur)) (now (a .reference)) (a .weight) in
+    let rd = rdAt (a .b) (now (a .cur)) (now (a .reference)) in
     let done = sym (hexagon-stops rd (turn .loop .current) (turn .loop .cand) (c .before .if1 .left)) ∙ turn .loop .inv .3 ∙ ap (hexagonAt rd (a .start)) (turn .before .hexagon-six .ensures) in
     c .square-refine .ensures ∙ ap (squareRound rd) done
 

@@ -13,11 +13,11 @@ use Rattle.search.proofs.hexagon.hexagon_six.Statement.{statement}
 use Rattle.search.proofs.hexagon.hexagon_six.Tie as tie
 
 abbrev Inv-loop : tie.InvT-loop
-Inv-loop b cur reference weight center cand₀ i₀ cand i =
-    (i ≤ 6) × (cand ≡ triedTo (rdAt b cur reference weight) center i)
+Inv-loop b cur reference center cand₀ i₀ cand i =
+    (i ≤ 6) × (cand ≡ triedTo (rdAt b cur reference) center i)
 
 abbrev μ-loop : tie.MeasureT-loop
-μ-loop b cur reference weight center cand₀ i₀ cand i = 6 - i
+μ-loop b cur reference center cand₀ i₀ cand i = 6 - i
 
 empty-requires : tie.Need-empty-requires Inv-loop μ-loop
 empty-requires c κs = search needs
@@ -25,7 +25,7 @@ empty-requires c κs = search needs
 loop-holds : tie.Need-loop-holds Inv-loop μ-loop
 loop-holds c =
     let a = c .before .before .before .args in
-    (omega arith, (λ k. record { idx = 0; best = c .empty .ensures k }) ∙ sym (tried-none (rdAt (a .b) (now (a .cur)) (now (a .reference)) (a .weight)) (a .center)))
+    (omega arith, (λ k. record { idx = 0; best = c .empty .ensures k }) ∙ sym (tried-none (rdAt (a .b) (now (a .cur)) (now (a .reference))) (a .center)))
 
 try-index-requires : tie.Need-try-index-requires Inv-loop μ-loop
 try-index-requires c κs = (c .before .before .before .before .before .pre .0, (omega arith, c .before .before .before .before .before .pre .1))
@@ -41,8 +41,8 @@ loop-again c =
     let turn = c .before in
     let a = turn .before .before .before .before .before .args in (
       omega arith,
-      c .try-index .ensures ∙ ap (λ (m : HexCand). tryIndex (rdAt (a .b) (now (a .cur)) (now (a .reference)) (a .weight)) (a .center) m (turn .before .loop .i)) (turn .before .loop .inv .1)
-          ∙ sym (tried-more (rdAt (a .b) (now (a .cur)) (now (a .reference)) (a .weight)) (a .center) (turn .before .loop .i)),
+      c .try-index .ensures ∙ ap (λ (m : HexCand). tryIndex (rdAt (a .b) (now (a .cur)) (now (a .reference))) (a .center) m (turn .before .loop .i)) (turn .before .loop .inv .1)
+          ∙ sym (tried-more (rdAt (a .b) (now (a .cur)) (now (a .reference))) (a .center) (turn .before .loop .i)),
     )
 
 returns : tie.Need-returns Inv-loop μ-loop
@@ -50,7 +50,7 @@ unfolding hexagonSix
 returns c =
     let a = c .before .before .before .before .before .args in
     let done : c .before .loop .i ≡ 6 = omega arith in
-    c .before .loop .inv .1 ∙ ap (triedTo (rdAt (a .b) (now (a .cur)) (now (a .reference)) (a .weight)) (a .center)) done
+    c .before .loop .inv .1 ∙ ap (triedTo (rdAt (a .b) (now (a .cur)) (now (a .reference))) (a .center)) done
 
 pub hexagon-six-spec : {M : Type 1} → statement M
 hexagon-six-spec =

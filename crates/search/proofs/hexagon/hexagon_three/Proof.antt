@@ -35,7 +35,7 @@ returns c =
     let second = c .before in
     let first = second .before in
     let a = first .before .before .before .before .args in
-    let try = tryIndex (rdAt (a .b) (now (a .cur)) (now (a .reference)) (a .weight)) (a .center) in
+    let try = tryIndex (rdAt (a .b) (now (a .cur)) (now (a .reference))) (a .center) in
     c .try-index3 .ensures
     ∙ ap (λ (m : HexCand). try m ((a .idx + 1) % 6))
     (second .try-index2 .ensures

@@ -27,7 +27,7 @@ unfolding squareRound
 returns c =
     let a = c .before .before .before .before .before .args in
     c .or-cheaper .ensures
-    ∙ ap (cheaper (a .current)) (c .before .try-pattern .ensures ∙ ap (λ (m : MotionSearchResult). tryPattern (rdAt (a .b) (now (a .cur)) (now (a .reference)) (a .weight)) m Square (a .current .mv)) (c .before .before .empty .ensures))
+    ∙ ap (cheaper (a .current)) (c .before .try-pattern .ensures ∙ ap (λ (m : MotionSearchResult). tryPattern (rdAt (a .b) (now (a .cur)) (now (a .reference))) m Square (a .current .mv)) (c .before .before .empty .ensures))
 
 pub square-refine-spec : {M : Type 1} → statement M
 square-refine-spec =

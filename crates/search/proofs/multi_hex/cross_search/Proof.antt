@@ -23,7 +23,7 @@ returns : tie.Need-returns
 unfolding cross
 returns c =
     let a = c .before .before .before .before .before .args in
-    c .try-pattern2 .ensures ∙ ap (λ (m : MotionSearchResult). tryPattern (rdAt (a .b) (now (a .cur)) (now (a .reference)) (a .weight)) m ColLine (a .current .mv)) (c .before .try-pattern .ensures)
+    c .try-pattern2 .ensures ∙ ap (λ (m : MotionSearchResult). tryPattern (rdAt (a .b) (now (a .cur)) (now (a .reference))) m ColLine (a .current .mv)) (c .before .try-pattern .ensures)
 
 pub cross-search-spec : {M : Type 1} → statement M
 cross-search-spec = tie.close (tie.spec try-pattern-requires try-pattern-requires-2 returns)

@@ -15,11 +15,11 @@ use Rattle.search.proofs.result.try_pattern.Statement.{statement}
 use Rattle.search.proofs.result.try_pattern.Tie as tie
 
 abbrev Inv-loop : tie.InvT-loop
-Inv-loop b cur reference weight pattern center n best₀ i₀ best i =
-    (i ≤ n) × (best ≡ tryEach (rdAt b cur reference weight) best₀ i (pointOf pattern center))
+Inv-loop b cur reference pattern center n best₀ i₀ best i =
+    (i ≤ n) × (best ≡ tryEach (rdAt b cur reference) best₀ i (pointOf pattern center))
 
 abbrev μ-loop : tie.MeasureT-loop
-μ-loop b cur reference weight pattern center n best₀ i₀ best i = n - i
+μ-loop b cur reference pattern center n best₀ i₀ best i = n - i
 
 pattern-points-requires : tie.Need-pattern-points-requires Inv-loop μ-loop
 pattern-points-requires c κs = search needs
@@ -27,7 +27,7 @@ pattern-points-requires c κs = search needs
 loop-holds : tie.Need-loop-holds Inv-loop μ-loop
 loop-holds c =
     let a = c .before .before .before .args in
-    (omega arith, sym (each-none (rdAt (a .b) (now (a .cur)) (now (a .reference)) (a .weight)) (a .current) (pointOf (a .pattern) (a .center))))
+    (omega arith, sym (each-none (rdAt (a .b) (now (a .cur)) (now (a .reference))) (a .current) (pointOf (a .pattern) (a .center))))
 
 pattern-point-requires : tie.Need-pattern-point-requires Inv-loop μ-loop
 pattern-point-requires c κs =
@@ -47,7 +47,7 @@ loop-again : tie.Need-loop-again Inv-loop μ-loop
 loop-again c =
     let turn = c .before .before in
     let a = turn .before .before .before .before .before .args in
-    let rd = rdAt (a .b) (now (a .cur)) (now (a .reference)) (a .weight) in (
+    let rd = rdAt (a .b) (now (a .cur)) (now (a .reference)) in (
       omega arith,
       c .try-mv .ensures ∙ ap₂ (λ (m : MotionSearchResult) (v : MotionVector). tryOne rd m v) (turn .before .loop .inv .1) (c .before .pattern-point .ensures)
           ∙ sym (each-more rd (a .current) (turn .before .loop .i) (pointOf (a .pattern) (a .center))),
@@ -58,7 +58,7 @@ unfolding tryPattern
 returns c =
     let a = c .before .before .before .before .before .args in
     let done : c .before .loop .i ≡ points (a .pattern) = omega (arith, c .before .before .pattern-points .ensures) in
-    c .before .loop .inv .1 ∙ ap (λ (n : ℕ). tryEach (rdAt (a .b) (now (a .cur)) (now (a .reference)) (a .weight)) (a .current) n (pointOf (a .pattern) (a .center))) done
+    c .before .loop .inv .1 ∙ ap (λ (n : ℕ). tryEach (rdAt (a .b) (now (a .cur)) (now (a .reference))) (a .current) n (pointOf (a .pattern) (a .center))) done
 
 pub try-pattern-spec : {M : Type 1} → statement M
 try-pattern-spec =

@@ -1,7 +1,7 @@
 -- `searches::calls::lockdapple_refine` meets its contract: a call that is not refused reads a cell of the grid, and its blocks lie inside the planes.
 -- Assumes nothing.
 use borrow.Author.Needs.{needs}
-use mathlib.Core.Path.{sym, ap, subst, _∙_}
+use mathlib.Core.Path.{_≡_, sym, ap, subst, _∙_}
 use Prim.Native.Nat.{_<_}
 use native.Mathlib.Omega.{arith}
 use lib.ListN.{length}
@@ -9,12 +9,15 @@ use denote.Ref.{now}
 use Rattle.ground.proofs.TestLaws.{passed, failed}
 use Rattle.motion.specs.declared.block.Block.{Block}
 use Rattle.motion.specs.declared.level.Level.{Level}
+use Rattle.motion.specs.Block.{weighed}
 use Rattle.grid.specs.Grid.{gridOf, cells, cellAt, storedAt}
 use Rattle.grid.proofs.CellLaws.{cell-inside}
 use Rattle.refusal.specs.Refusals.{gridHolds}
 use Rattle.refusal.proofs.RefusalLaws.{held, row-bounds}
 use Rattle.sad.specs.Asked.{Lies}
+use Rattle.sad.proofs.Contained.{weighed-lies}
 use Rattle.single.specs.Found.{refused}
+use Rattle.single.specs.Call.{blockAt}
 use Rattle.single.proofs.OpenedLaws.{Opened, opened}
 use Rattle.single.proofs.AnswerLaws.{refuses-first, refuses-later, refuses-at, finds}
 use Rattle.searches.specs.Refinement.{windowAnswer, refineAnswer}
@@ -62,15 +65,24 @@ returns-2 c =
 block-at-requires : tie.Need-block-at-requires
 block-at-requires c κs = ok (c .before .before) .none
 
+weighed-requires : tie.Need-weighed-requires
+weighed-requires c κs = search needs
+
+-- the block that is searched
+placed : (c : tie.After-weighed) → let a = c .before .before .before .before .before .before .before .before .before .args in c .weighed .result ≡ weighed (blockAt (a .width) (a .height) (a .level) 1 (a .bx) (a .by)) (a .weight)
+placed c =
+    let a = c .before .before .before .before .before .before .before .before .before .args in
+    c .weighed .ensures ∙ ap (λ (b : Block). weighed b (a .weight)) (c .before .block-at .ensures)
+
 cell-at-requires : tie.Need-cell-at-requires
 cell-at-requires c κs =
-    let b = ok (c .before .before .before) .block in
+    let b = ok (c .before .before .before .before) .block in
     omega (arith, b .wide .most, b .high .most, b .across .inside, b .down .inside)
 
 stored-at-requires : tie.Need-stored-at-requires
 unfolding gridHolds
 stored-at-requires c κs =
-    let last = c .before .before in
+    let last = c .before .before .before in
     let first = last .before .before in
     let a = first .before .before .before .before .before .args in
     let held = held (a .width) (a .height) (gridOf (now (a .rows)) (now (a .cols)) (now (a .sads))) (passed (last .before .grid-ok .ensures) (last .if2 .left)) in
@@ -82,12 +94,12 @@ level-of-requires c κs = search needs
 refine-block-requires : tie.Need-refine-block-requires
 refine-block-requires c κs =
     let at = c .before .before .before in
-    let first = at .before .before .before in
+    let first = at .before .before .before .before in
     let a = first .before .before .before .before .before .args in
     let shift = ap (λ (l : Level). l .ssdec) (c .level-of .ensures) in (
       (
-        subst (λ (b : Block). Lies b (length (now (a .cur)))) (sym (at .block-at .ensures)) (ok first .cur),
-        subst (λ (b : Block). Lies b (length (now (a .reference)))) (sym (at .block-at .ensures)) (ok first .ref),
+        subst (λ (b : Block). Lies b (length (now (a .cur)))) (sym (placed at)) (weighed-lies (a .weight) (ok first .cur)),
+        subst (λ (b : Block). Lies b (length (now (a .reference)))) (sym (placed at)) (weighed-lies (a .weight) (ok first .ref)),
       ),
       omega (arith, shift, row-bounds (a .level) .0),
     )
@@ -99,7 +111,7 @@ returns-3 c =
     let cell = level .before in
     let number = cell .before in
     let at = number .before in
-    let last = at .before in
+    let last = at .before .before in
     let first = last .before .before in
     let a = first .before .before .before .before .before .args in
     let cur = now (a .cur) in
@@ -107,7 +119,7 @@ returns-3 c =
     let shift = ap (λ (l : Level). l .ssdec) (level .level-of .ensures) in
     let stored = cell .stored-at .ensures ∙ ap (storedAt (now (a .rows)) (now (a .cols))) (number .cell-at .ensures) in
     c .refine-block .ensures
-    ∙ (λ i. windowAnswer (at .block-at .ensures i) cur ref (a .weight) (stored i) (shift i))
+    ∙ (λ i. windowAnswer (placed at i) cur ref (stored i) (shift i))
     ∙ sym (finds 5 _ _ (passed (last .before .grid-ok .ensures) (last .if2 .left)))
     ∙ sym (refuses-later _ _ _ (sym (first .before .call-refusal .ensures) ∙ first .if1 .left))
 
@@ -122,6 +134,7 @@ lockdapple-refine-spec =
     refuse-requires-2
     returns-2
     block-at-requires
+    weighed-requires
     cell-at-requires
     stored-at-requires
     level-of-requires

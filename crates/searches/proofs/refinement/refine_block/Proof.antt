@@ -71,7 +71,7 @@ returns-2 c =
     let w = test .before .refine-window in
     let a = test .before .before .before .before .args in
     let found : MotionSearchResult → Found = λ m. foundOf (m .mv) (m .rd) in
-    c .done .ensures ∙ ap found (c .before .full-search .ensures ∙ ap (fullSearch (rdAt (a .b) (now (a .cur)) (now (a .reference)) (a .weight))) (w .ensures))
+    c .done .ensures ∙ ap found (c .before .full-search .ensures ∙ ap (fullSearch (rdAt (a .b) (now (a .cur)) (now (a .reference)))) (w .ensures))
     ∙ sym (finds 8 _ _ (passed (test .ok .ensures ∙ ap windowOk (w .ensures)) (last .if1 .left)))
 
 pub refine-block-spec : {M : Type 1} → statement M

@@ -31,19 +31,19 @@ returns : tie.Need-returns
 unfolding searchBy
 returns c =
     let a = c .before .before .before .before .before .args in
-    c .fullpel-diamond-search .ensures ∙ sym (ap (λ (m : Method). searchBy m (rdAt (a .b) (now (a .cur)) (now (a .reference)) (a .weight)) (a .start)) (c .before .enum-told .given .1))
+    c .fullpel-diamond-search .ensures ∙ sym (ap (λ (m : Method). searchBy m (rdAt (a .b) (now (a .cur)) (now (a .reference))) (a .start)) (c .before .enum-told .given .1))
 
 returns-2 : tie.Need-returns-2
 unfolding searchBy
 returns-2 c =
     let a = c .before .before .before .before .before .args in
-    c .hexagon-search .ensures ∙ sym (ap (λ (m : Method). searchBy m (rdAt (a .b) (now (a .cur)) (now (a .reference)) (a .weight)) (a .start)) (c .before .enum-told2 .given .1))
+    c .hexagon-search .ensures ∙ sym (ap (λ (m : Method). searchBy m (rdAt (a .b) (now (a .cur)) (now (a .reference))) (a .start)) (c .before .enum-told2 .given .1))
 
 returns-3 : tie.Need-returns-3
 unfolding searchBy
 returns-3 c =
     let a = c .before .before .before .before .before .args in
-    c .uneven-multi-hex-search .ensures ∙ sym (ap (λ (m : Method). searchBy m (rdAt (a .b) (now (a .cur)) (now (a .reference)) (a .weight)) (a .start)) (c .before .enum-told3 .given .1))
+    c .uneven-multi-hex-search .ensures ∙ sym (ap (λ (m : Method). searchBy m (rdAt (a .b) (now (a .cur)) (now (a .reference))) (a .start)) (c .before .enum-told3 .given .1))
 
 pub search-by-spec : {M : Type 1} → statement M
 search-by-spec =

@@ -1,19 +1,22 @@
 -- `searches::searches::single_search` meets its contract: a call that is not refused starts in range, inside its planes.
 -- Assumes nothing.
 use borrow.Author.Needs.{needs}
-use mathlib.Core.Path.{sym, ap, subst, _∙_}
+use mathlib.Core.Path.{_≡_, sym, ap, subst, _∙_}
 use lib.ListN.{length}
 use denote.Ref.{now}
 use Rattle.ground.proofs.TestLaws.{passed, failed}
 use Rattle.motion.specs.declared.block.Block.{Block}
 use Rattle.motion.specs.declared.vector.MotionVector.{MotionVector}
 use Rattle.motion.specs.Range.{inRange}
+use Rattle.motion.specs.Block.{weighed}
 use Rattle.sad.specs.declared.rd.MVCandidateRD.{MVCandidateRD}
 use Rattle.sad.specs.Asked.{Lies}
 use Rattle.sad.specs.Cost.{rdAt}
+use Rattle.sad.proofs.Contained.{weighed-lies}
 use Rattle.search.specs.declared.result.MotionSearchResult.{MotionSearchResult}
 use Rattle.single.specs.declared.found.Found.{Found}
 use Rattle.single.specs.Found.{refused, foundOf}
+use Rattle.single.specs.Call.{blockAt}
 use Rattle.single.proofs.OpenedLaws.{Opened, opened}
 use Rattle.single.proofs.AnswerLaws.{refuses-first, refuses-later, refuses-at, finds}
 use Rattle.searches.specs.Searches.{searchBy, searchRefusal, searchAnswer}
@@ -26,13 +29,19 @@ ok c =
     let a = c .before .before .before .before .args in
     opened (a .width) (a .height) (a .level) 0 (a .bx) (a .by) (length (now (a .cur))) (length (now (a .reference))) (sym (c .before .call-refusal .ensures) ∙ c .if1 .left)
 
--- and the block that is made lies inside both planes
-inside : (c : tie.After-block-at) → Lies (c .block-at .result) (length (now (c .before .before .before .before .before .args .cur))) × Lies (c .block-at .result) (length (now (c .before .before .before .before .before .args .reference)))
+-- the block that is searched
+placed : (c : tie.After-weighed) → let a = c .before .before .before .before .before .before .args in c .weighed .result ≡ weighed (blockAt (a .width) (a .height) (a .level) 0 (a .bx) (a .by)) (a .weight)
+placed c =
+    let a = c .before .before .before .before .before .before .args in
+    c .weighed .ensures ∙ ap (λ (b : Block). weighed b (a .weight)) (c .before .block-at .ensures)
+
+-- and it lies inside both planes
+inside : (c : tie.After-weighed) → let a = c .before .before .before .before .before .before .args in Lies (c .weighed .result) (length (now (a .cur))) × Lies (c .weighed .result) (length (now (a .reference)))
 inside c =
-    let first = c .before in
+    let first = c .before .before in
     let a = first .before .before .before .before .args in (
-      subst (λ (b : Block). Lies b (length (now (a .cur)))) (sym (c .block-at .ensures)) (ok first .cur),
-      subst (λ (b : Block). Lies b (length (now (a .reference)))) (sym (c .block-at .ensures)) (ok first .ref),
+      subst (λ (b : Block). Lies b (length (now (a .cur)))) (sym (placed c)) (weighed-lies (a .weight) (ok first .cur)),
+      subst (λ (b : Block). Lies b (length (now (a .reference)))) (sym (placed c)) (weighed-lies (a .weight) (ok first .ref)),
     )
 
 call-refusal-requires : tie.Need-call-refusal-requires
@@ -50,6 +59,9 @@ returns c =
 block-at-requires : tie.Need-block-at-requires
 block-at-requires c κs = ok c .none
 
+weighed-requires : tie.Need-weighed-requires
+weighed-requires c κs = search needs
+
 holds-requires : tie.Need-holds-requires
 holds-requires c κs = search needs
 
@@ -60,9 +72,9 @@ returns-2 : tie.Need-returns-2
 unfolding searchAnswer searchRefusal
 returns-2 c =
     let at = c .before .before .before in
-    let first = at .before in
+    let first = at .before .before in
     let a = first .before .before .before .before .args in
-    let out = failed (c .before .before .holds .ensures ∙ ap (λ (b : Block). inRange (b .range) (a .mv)) (at .block-at .ensures)) (c .before .if2 .taken) in
+    let out = failed (c .before .before .holds .ensures ∙ ap (λ (b : Block). inRange (b .range) (a .mv)) (placed at)) (c .before .if2 .taken) in
     c .refuse2 .ensures ∙ sym (refuses-at 8 _ _ out) ∙ sym (refuses-later _ _ _ (sym (first .before .call-refusal .ensures) ∙ first .if1 .left))
 
 get-fullpel-mv-rd-requires : tie.Need-get-fullpel-mv-rd-requires
@@ -81,16 +93,16 @@ returns-3 c =
     let cost = c .before .before in
     let held = cost .before .before in
     let at = held .before in
-    let first = at .before in
+    let first = at .before .before in
     let a = first .before .before .before .before .args in
     let cur = now (a .cur) in
     let ref = now (a .reference) in
-    let rd : Block → MotionVector → MVCandidateRD = λ b v. rdAt b cur ref (a .weight) v in
+    let rd : Block → MotionVector → MVCandidateRD = λ b v. rdAt b cur ref v in
     let found : MotionSearchResult → Found = λ m. foundOf (m .mv) (m .rd) in
     let best = c .before .search-by .ensures
-    ∙ ap (λ (r : MVCandidateRD). searchBy (a .method) (rd (at .block-at .result)) (record { mv = a .mv; rd = r })) (cost .get-fullpel-mv-rd .ensures)
-    ∙ ap (λ (b : Block). searchBy (a .method) (rd b) (record { mv = a .mv; rd = rd b (a .mv) })) (at .block-at .ensures) in
-    let in-range = passed (held .holds .ensures ∙ ap (λ (b : Block). inRange (b .range) (a .mv)) (at .block-at .ensures)) (cost .before .if2 .left) in
+    ∙ ap (λ (r : MVCandidateRD). searchBy (a .method) (rd (at .weighed .result)) (record { mv = a .mv; rd = r })) (cost .get-fullpel-mv-rd .ensures)
+    ∙ ap (λ (b : Block). searchBy (a .method) (rd b) (record { mv = a .mv; rd = rd b (a .mv) })) (placed at) in
+    let in-range = passed (held .holds .ensures ∙ ap (λ (b : Block). inRange (b .range) (a .mv)) (placed at)) (cost .before .if2 .left) in
     c .done .ensures ∙ ap found best ∙ sym (finds 9 _ _ in-range)
     ∙ sym (refuses-later _ _ _ (sym (first .before .call-refusal .ensures) ∙ first .if1 .left))
 
@@ -102,6 +114,7 @@ single-search-spec =
     refuse-requires
     returns
     block-at-requires
+    weighed-requires
     holds-requires
     refuse-requires-2
     returns-2

@@ -54,7 +54,7 @@ testing c = c .before .before .before .before .before
 abbrev left : tie.After-superblock-step → Grid
 left c =
     let last = c .superblock-step .last in
-    gridOf (last .1 .1 .1 .1 .1 .1 .1 .1 .1 .1 .1 .0) (last .1 .1 .1 .1 .1 .1 .1 .1 .1 .1 .1 .1 .0) (last .1 .1 .1 .1 .1 .1 .1 .1 .1 .1 .1 .1 .1 .0)
+    gridOf (last .1 .1 .1 .1 .1 .1 .0) (last .1 .1 .1 .1 .1 .1 .1 .0) (last .1 .1 .1 .1 .1 .1 .1 .1 .0)
 
 stepped : (c : tie.After-superblock-step) → left c ≡ step (inputsOf (start (testing c) .args .width) (start (testing c) .args .height) (start (testing c) .args .level) (cur (testing c)) (ref (testing c)) 0) (previous (start (testing c) .args .present) (prev (testing c))) (start (testing c) .args .superblock) (grid (testing c))
 unfolding previous

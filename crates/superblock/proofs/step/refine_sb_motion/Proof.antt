@@ -12,7 +12,7 @@ use Rattle.motion.specs.Level.{levelOf}
 use Rattle.grid.specs.declared.cells.MEStats.{MEStats}
 use Rattle.grid.specs.Grid.{Grid, Held, gridOf}
 use Rattle.points.specs.Window.{windowOk}
-use Rattle.estimate.specs.Inputs.{inputsOf}
+use Rattle.estimate.specs.Inputs.{inputsIn}
 use Rattle.estimate.specs.Block.{windowAt, refineMotion}
 use Rattle.superblock.specs.Step.{blockX, blockY, worked, refinedCount, refinements}
 use Rattle.superblock.proofs.GeometryLaws.{refined-tabled, place-asked, placed-at}
@@ -21,23 +21,23 @@ use Rattle.superblock.proofs.step.refine_sb_motion.Statement.{statement
 use Rattle.superblock.proofs.step.refine_sb_motion.Tie as tie
 
 abbrev Inv-loop : tie.InvT-loop
-Inv-loop width height level superblock cur reference weight rows₀ cols₀ sads₀ mv-size count k₀ rows cols sads k =
-    (k ≤ count) × (gridOf rows cols sads ≡ worked (λ (bx by : ℕ) (g : Grid). refineMotion (inputsOf width height level cur reference weight) bx by (g .rows) (g .cols)) width height (levelOf level .refined) superblock k (gridOf rows₀ cols₀ sads₀))
+Inv-loop s cur reference rows₀ cols₀ sads₀ width height superblock mv-size count k₀ rows cols sads k =
+    (k ≤ count) × (gridOf rows cols sads ≡ worked (λ (bx by : ℕ) (g : Grid). refineMotion (inputsIn (s .frame) (s .level) cur reference) bx by (g .rows) (g .cols)) (s .frame .width) (s .frame .height) (levelOf (s .level) .refined) (s .superblock) k (gridOf rows₀ cols₀ sads₀))
 
 abbrev μ-loop : tie.MeasureT-loop
-μ-loop width height level superblock cur reference weight rows₀ cols₀ sads₀ mv-size count k₀ rows cols sads k = count - k
+μ-loop s cur reference rows₀ cols₀ sads₀ width height superblock mv-size count k₀ rows cols sads k = count - k
 
 -- at the loop's head: the function's entry, the size, what a block's result is, and the grid at entry and now
 abbrev entry : tie.At-loop Inv-loop μ-loop → tie.Start Inv-loop μ-loop
 entry c = c .before .before .before .before .before .before
 
 abbrev size : tie.At-loop Inv-loop μ-loop → ℕ
-size c = levelOf (entry c .args .level) .refined
+size c = levelOf (entry c .args .s .level) .refined
 
 abbrev result : tie.At-loop Inv-loop μ-loop → ℕ → ℕ → Grid → MEStats
 result c =
     let a = entry c .args in
-    λ (bx by : ℕ) (g : Grid). refineMotion (inputsOf (a .width) (a .height) (a .level) (now (a .cur)) (now (a .reference)) (a .weight)) bx by (g .rows) (g .cols)
+    λ (bx by : ℕ) (g : Grid). refineMotion (inputsIn (a .s .frame) (a .s .level) (now (a .cur)) (now (a .reference))) bx by (g .rows) (g .cols)
 
 abbrev first : tie.At-loop Inv-loop μ-loop → Grid
 first c = gridOf (now (entry c .args .rows)) (now (entry c .args .cols)) (now (entry c .args .sads))
@@ -51,37 +51,37 @@ size-is c = ap (λ (l : Level). l .refined) (c .before .before .level-of .ensure
 long-now : (c : tie.At-loop Inv-loop μ-loop) → AsLong (first c) (present-grid c)
 long-now c =
     let a = entry c .args in
-    subst (AsLong (first c)) (sym (c .loop .inv .1)) (worked-long (result c) (a .width) (a .height) (size c) (a .superblock) (c .loop .k) (first c))
+    subst (AsLong (first c)) (sym (c .loop .inv .1)) (worked-long (result c) (a .s .frame .width) (a .s .frame .height) (size c) (a .s .superblock) (c .loop .k) (first c))
 
-held-now : (c : tie.At-loop Inv-loop μ-loop) → Held (entry c .args .width) (entry c .args .height) (present-grid c)
+held-now : (c : tie.At-loop Inv-loop μ-loop) → Held (entry c .args .s .frame .width) (entry c .args .s .frame .height) (present-grid c)
 held-now c = held-long (long-now c) (entry c .pre .1 .0)
 
 -- in a turn: the number of the block, and its place
-turn-below : (c : tie.In-loop Inv-loop μ-loop) → c .before .loop .k < refinedCount (entry (c .before) .args .width) (entry (c .before) .args .height) (entry (c .before) .args .level) (entry (c .before) .args .superblock)
+turn-below : (c : tie.In-loop Inv-loop μ-loop) → c .before .loop .k < refinedCount (entry (c .before) .args .s .frame .width) (entry (c .before) .args .s .frame .height) (entry (c .before) .args .s .level) (entry (c .before) .args .s .superblock)
 turn-below c = omega (arith, c .loop-test .taken, c .before .before .refined-count .ensures)
 
-asked : (c : tie.In-loop Inv-loop μ-loop) → Side (entry (c .before) .args .width) × (entry (c .before) .args .superblock ≤ largestSide) × (0 < c .before .before .before .level-of .result .refined) × (c .before .before .before .level-of .result .refined ≤ superblockSide) × (c .before .loop .k ≤ largestSide)
+asked : (c : tie.In-loop Inv-loop μ-loop) → Side (entry (c .before) .args .s .frame .width) × (entry (c .before) .args .s .superblock ≤ largestSide) × (0 < c .before .before .before .level-of .result .refined) × (c .before .before .before .level-of .result .refined ≤ superblockSide) × (c .before .loop .k ≤ largestSide)
 asked c =
     let a = entry (c .before) .args in
     let pre = entry (c .before) .pre .0 in
-    place-asked (refined-tabled (a .level)) (pre .0 .wide) (pre .0 .high) (pre .1) (size-is (c .before)) (c .before .loop .k) (refined-below (a .width) (a .height) (a .level) (a .superblock) (turn-below c))
+    place-asked (refined-tabled (a .s .level)) (pre .0 .wide) (pre .0 .high) (pre .1) (size-is (c .before)) (c .before .loop .k) (refined-below (a .s .frame .width) (a .s .frame .height) (a .s .level) (a .s .superblock) (turn-below c))
 
-column-is : (c : tie.After-block-x Inv-loop μ-loop) → c .block-x .result ≡ blockX (entry (c .before .before) .args .width) (size (c .before .before)) (entry (c .before .before) .args .superblock) (c .before .before .loop .k)
+column-is : (c : tie.After-block-x Inv-loop μ-loop) → c .block-x .result ≡ blockX (entry (c .before .before) .args .s .frame .width) (size (c .before .before)) (entry (c .before .before) .args .s .superblock) (c .before .before .loop .k)
 column-is c =
     let a = entry (c .before .before) .args in
-    c .block-x .ensures ∙ ap (λ (size : ℕ). blockX (a .width) size (a .superblock) (c .before .before .loop .k)) (size-is (c .before .before))
+    c .block-x .ensures ∙ ap (λ (size : ℕ). blockX (a .s .frame .width) size (a .s .superblock) (c .before .before .loop .k)) (size-is (c .before .before))
 
-row-is : (c : tie.After-block-y Inv-loop μ-loop) → c .block-y .result ≡ blockY (entry (c .before .before .before) .args .width) (size (c .before .before .before)) (entry (c .before .before .before) .args .superblock) (c .before .before .before .loop .k)
+row-is : (c : tie.After-block-y Inv-loop μ-loop) → c .block-y .result ≡ blockY (entry (c .before .before .before) .args .s .frame .width) (size (c .before .before .before)) (entry (c .before .before .before) .args .s .superblock) (c .before .before .before .loop .k)
 row-is c =
     let a = entry (c .before .before .before) .args in
-    c .block-y .ensures ∙ ap (λ (size : ℕ). blockY (a .width) size (a .superblock) (c .before .before .before .loop .k)) (size-is (c .before .before .before))
+    c .block-y .ensures ∙ ap (λ (size : ℕ). blockY (a .s .frame .width) size (a .s .superblock) (c .before .before .before .loop .k)) (size-is (c .before .before .before))
 
-starts-now : (c : tie.After-block-y Inv-loop μ-loop) → Starts (entry (c .before .before .before) .args .width) (size (c .before .before .before)) (c .before .block-x .result) × Starts (entry (c .before .before .before) .args .height) (size (c .before .before .before)) (c .block-y .result)
+starts-now : (c : tie.After-block-y Inv-loop μ-loop) → Starts (entry (c .before .before .before) .args .s .frame .width) (size (c .before .before .before)) (c .before .block-x .result) × Starts (entry (c .before .before .before) .args .s .frame .height) (size (c .before .before .before)) (c .block-y .result)
 starts-now c =
     let turn = c .before .before in
     let a = entry (turn .before) .args in
     let pre = entry (turn .before) .pre .0 in
-    placed-at (refined-tabled (a .level)) (pre .0 .wide) (pre .0 .high) (pre .1) (turn .before .loop .k) (refined-below (a .width) (a .height) (a .level) (a .superblock) (turn-below turn)) (column-is (c .before)) (row-is c)
+    placed-at (refined-tabled (a .s .level)) (pre .0 .wide) (pre .0 .high) (pre .1) (turn .before .loop .k) (refined-below (a .s .frame .width) (a .s .frame .height) (a .s .level) (a .s .superblock) (turn-below turn)) (column-is (c .before)) (row-is c)
 
 level-of-requires : tie.Need-level-of-requires Inv-loop μ-loop
 level-of-requires c κs = search needs
@@ -94,7 +94,7 @@ refined-count-requires c κs =
 loop-holds : tie.Need-loop-holds Inv-loop μ-loop
 loop-holds c =
     let a = c .before .before .before .before .before .args in
-    (omega arith, sym (worked-none (λ (bx by : ℕ) (g : Grid). refineMotion (inputsOf (a .width) (a .height) (a .level) (now (a .cur)) (now (a .reference)) (a .weight)) bx by (g .rows) (g .cols)) (a .width) (a .height) (levelOf (a .level) .refined) (a .superblock) (gridOf (now (a .rows)) (now (a .cols)) (now (a .sads)))))
+    (omega arith, sym (worked-none (λ (bx by : ℕ) (g : Grid). refineMotion (inputsIn (a .s .frame) (a .s .level) (now (a .cur)) (now (a .reference))) bx by (g .rows) (g .cols)) (a .s .frame .width) (a .s .frame .height) (levelOf (a .s .level) .refined) (a .s .superblock) (gridOf (now (a .rows)) (now (a .cols)) (now (a .sads)))))
 
 block-x-requires : tie.Need-block-x-requires Inv-loop μ-loop
 block-x-requires c κs = (asked c .0, asked c .2, asked c .3)
@@ -112,9 +112,9 @@ refine-motion-requires c κs =
     let ready = pre .0 .0 in
     let held = held-now head in
     let k = head .loop .k in
-    let stays = window-stays (a .level) (ready .wide) (ready .high) (pre .0 .1) (result head) k k (omega arith) (turn-below turn) (first head) in
-    let passes = window-passes (a .width) (a .height) (a .level) (a .superblock) (now (a .rows)) (now (a .cols)) (pre .1 .1) k (turn-below turn) in
-    (ready, (starts-now block, ((held .rows, held .cols), ap windowOk ((λ i. windowAt (a .width) (a .height) (a .level) (column-is (block .before) i) (row-is block i) (head .loop .inv .1 i .rows) (head .loop .inv .1 i .cols)) ∙ stays) ∙ passes)))
+    let stays = window-stays (a .s .level) (ready .wide) (ready .high) (pre .0 .1) (result head) k k (omega arith) (turn-below turn) (first head) in
+    let passes = window-passes (a .s .frame .width) (a .s .frame .height) (a .s .level) (a .s .superblock) (now (a .rows)) (now (a .cols)) (pre .1 .1) k (turn-below turn) in
+    (ready, (starts-now block, ((held .rows, held .cols), ap windowOk ((λ i. windowAt (a .s .frame .width) (a .s .frame .height) (a .s .level) (column-is (block .before) i) (row-is block i) (head .loop .inv .1 i .rows) (head .loop .inv .1 i .cols)) ∙ stays) ∙ passes)))
 
 save-me-stats-requires : tie.Need-save-me-stats-requires Inv-loop μ-loop
 save-me-stats-requires c κs =
@@ -138,7 +138,7 @@ loop-again c =
     let turn = block .before .before in
     let a = entry (turn .before) .args in (
       omega (arith, turn .loop-test .taken),
-      worked-turn (result (turn .before)) (a .width) (a .height) (size (turn .before)) (a .superblock) (turn .before .loop .k) (first (turn .before))
+      worked-turn (result (turn .before)) (a .s .frame .width) (a .s .frame .height) (size (turn .before)) (a .s .superblock) (turn .before .loop .k) (first (turn .before))
           (size-is (turn .before)) (column-is (block .before)) (row-is block) (turn .before .loop .inv .1) (searched .refine-motion .ensures) (saved .save-me-stats .ensures),
     )
 
@@ -155,8 +155,8 @@ returns : tie.Need-returns Inv-loop μ-loop
 unfolding refinements
 returns c =
     let a = entry (c .before) .args in
-    let done : c .before .loop .k ≡ refinedCount (a .width) (a .height) (a .level) (a .superblock) = omega (arith, c .loop-test .left, c .before .before .refined-count .ensures) in
-    c .before .loop .inv .1 ∙ ap (λ (k : ℕ). worked (result (c .before)) (a .width) (a .height) (size (c .before)) (a .superblock) k (first (c .before))) done
+    let done : c .before .loop .k ≡ refinedCount (a .s .frame .width) (a .s .frame .height) (a .s .level) (a .s .superblock) = omega (arith, c .loop-test .left, c .before .before .refined-count .ensures) in
+    c .before .loop .inv .1 ∙ ap (λ (k : ℕ). worked (result (c .before)) (a .s .frame .width) (a .s .frame .height) (size (c .before)) (a .s .superblock) k (first (c .before))) done
 
 pub refine-sb-motion-spec : {M : Type 1} → statement M
 refine-sb-motion-spec =

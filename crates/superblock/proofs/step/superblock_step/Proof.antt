@@ -6,8 +6,8 @@ use mathlib.Core.Bool.{true}
 use denote.Ref.{now}
 use Rattle.ground.proofs.TestLaws.{failed, passed}
 use Rattle.grid.specs.Grid.{Grid, Held, gridOf}
-use Rattle.grid.specs.Previous.{Previous, previousOf}
-use Rattle.estimate.specs.Inputs.{Inputs, inputsOf}
+use Rattle.grid.specs.Previous.{Previous}
+use Rattle.estimate.specs.Inputs.{Inputs, inputsIn, previousIn}
 use Rattle.superblock.specs.Step.{windowsOk, estimates}
 use Rattle.superblock.proofs.StepLaws.{held-long, refinements-long, step-refused, step-taken}
 use Rattle.superblock.proofs.step.superblock_step.Statement.{statement}
@@ -20,12 +20,12 @@ entry c = c .before .before .before .before .before .before .before
 abbrev inputs : tie.After-windows-ok → Inputs
 inputs c =
     let a = entry c .args in
-    inputsOf (a .width) (a .height) (a .level) (now (a .cur)) (now (a .reference)) (a .weight)
+    inputsIn (a .s .frame) (a .s .level) (now (a .cur)) (now (a .reference))
 
 abbrev previous : tie.After-windows-ok → Previous
 previous c =
     let a = entry c .args in
-    previousOf (a .present) (gridOf (now (a .prev-rows)) (now (a .prev-cols)) (now (a .prev-sads)))
+    previousIn (a .s .frame) (gridOf (now (a .prev-rows)) (now (a .prev-cols)) (now (a .prev-sads)))
 
 abbrev first : tie.After-windows-ok → Grid
 first c =
@@ -33,7 +33,7 @@ first c =
     gridOf (now (a .rows)) (now (a .cols)) (now (a .sads))
 
 -- where no window is empty
-all-pass : (c : tie.Else1) → windowsOk (entry (c .before) .args .width) (entry (c .before) .args .height) (entry (c .before) .args .level) (entry (c .before) .args .superblock) (now (entry (c .before) .args .rows)) (now (entry (c .before) .args .cols)) ≡ true
+all-pass : (c : tie.Else1) → windowsOk (entry (c .before) .args .s .frame .width) (entry (c .before) .args .s .frame .height) (entry (c .before) .args .s .level) (entry (c .before) .args .s .superblock) (now (entry (c .before) .args .rows)) (now (entry (c .before) .args .cols)) ≡ true
 all-pass c = passed (c .before .windows-ok .ensures) (c .if1 .left)
 
 windows-ok-requires : tie.Need-windows-ok-requires
@@ -49,7 +49,7 @@ returns : tie.Need-returns
 returns c =
     let test = c .before in
     let one-fails = failed (test .windows-ok .ensures) (c .if1 .taken) in
-    (sym one-fails, sym (step-refused (inputs test) (previous test) (entry test .args .superblock) (first test) one-fails))
+    (sym one-fails, sym (step-refused (inputs test) (previous test) (entry test .args .s .superblock) (first test) one-fails))
 
 refine-sb-motion-requires : tie.Need-refine-sb-motion-requires
 refine-sb-motion-requires c κs =
@@ -62,8 +62,8 @@ estimate-sb-motion-requires c κs =
     let refined = c .before .before .before .before .before .before .before in
     let test = refined .before .before .before .before .before in
     let pre = entry test .pre in
-    let held = held-long (refinements-long (inputs test) (entry test .args .superblock) (first test)) (pre .1 .1) in
-    (pre .0, (pre .1 .0, subst (Held (entry test .args .width) (entry test .args .height)) (sym (refined .refine-sb-motion .ensures)) held))
+    let held = held-long (refinements-long (inputs test) (entry test .args .s .superblock) (first test)) (pre .1 .1) in
+    (pre .0, (pre .1 .0, subst (Held (entry test .args .s .frame .width) (entry test .args .s .frame .height)) (sym (refined .refine-sb-motion .ensures)) held))
 
 same-length-3 : tie.Need-same-length-3
 same-length-3 c = search needs
@@ -80,7 +80,7 @@ returns-2 c =
     let refined = estimated .before .before .before .before .before .before .before .before in
     let arm = refined .before .before .before .before in
     let test = arm .before in
-    let n = entry test .args .superblock in (
+    let n = entry test .args .s .superblock in (
       sym (all-pass arm),
       estimated .estimate-sb-motion .ensures ∙ ap (estimates (inputs test) (previous test) n) (refined .refine-sb-motion .ensures)
           ∙ sym (step-taken (inputs test) (previous test) n (first test) (all-pass arm)),

@@ -29,41 +29,41 @@ passes width height level n rows cols k =
     windowOk (windowAt width height level (blockX width (levelOf level .refined) n k) (blockY width (levelOf level .refined) n k) rows cols)
 
 abbrev Inv-loop : tie.InvT-loop
-Inv-loop width height level superblock rows cols mv-size count k₀ k =
-    (k ≤ count) × (allBelow k (passes width height level superblock rows cols) ≡ true)
+Inv-loop s rows cols width superblock mv-size count k₀ k =
+    (k ≤ count) × (allBelow k (passes (s .frame .width) (s .frame .height) (s .level) (s .superblock) rows cols) ≡ true)
 
 abbrev μ-loop : tie.MeasureT-loop
-μ-loop width height level superblock rows cols mv-size count k₀ k = count - k
+μ-loop s rows cols width superblock mv-size count k₀ k = count - k
 
 -- in a turn: the refined size, and the number of the block
-size-is : (c : tie.In-loop Inv-loop μ-loop) → c .before .before .before .level-of .result .refined ≡ levelOf (c .before .before .before .before .args .level) .refined
+size-is : (c : tie.In-loop Inv-loop μ-loop) → c .before .before .before .level-of .result .refined ≡ levelOf (c .before .before .before .before .args .s .level) .refined
 size-is c = ap (λ (l : Level). l .refined) (c .before .before .before .level-of .ensures)
 
-turn-below : (c : tie.In-loop Inv-loop μ-loop) → c .before .loop .k < refinedCount (c .before .before .before .before .args .width) (c .before .before .before .before .args .height) (c .before .before .before .before .args .level) (c .before .before .before .before .args .superblock)
+turn-below : (c : tie.In-loop Inv-loop μ-loop) → c .before .loop .k < refinedCount (c .before .before .before .before .args .s .frame .width) (c .before .before .before .before .args .s .frame .height) (c .before .before .before .before .args .s .level) (c .before .before .before .before .args .s .superblock)
 turn-below c = omega (arith, c .before .before .refined-count .ensures)
 
-asked : (c : tie.In-loop Inv-loop μ-loop) → Side (c .before .before .before .before .args .width) × (c .before .before .before .before .args .superblock ≤ largestSide) × (0 < c .before .before .before .level-of .result .refined) × (c .before .before .before .level-of .result .refined ≤ superblockSide) × (c .before .loop .k ≤ largestSide)
+asked : (c : tie.In-loop Inv-loop μ-loop) → Side (c .before .before .before .before .args .s .frame .width) × (c .before .before .before .before .args .s .superblock ≤ largestSide) × (0 < c .before .before .before .level-of .result .refined) × (c .before .before .before .level-of .result .refined ≤ superblockSide) × (c .before .loop .k ≤ largestSide)
 asked c =
     let entry = c .before .before .before .before in
     let a = entry .args in
-    place-asked (refined-tabled (a .level)) (entry .pre .0 .0) (entry .pre .0 .1) (entry .pre .0 .3) (size-is c) (c .before .loop .k) (refined-below (a .width) (a .height) (a .level) (a .superblock) (turn-below c))
+    place-asked (refined-tabled (a .s .level)) (entry .pre .0 .0) (entry .pre .0 .1) (entry .pre .0 .3) (size-is c) (c .before .loop .k) (refined-below (a .s .frame .width) (a .s .frame .height) (a .s .level) (a .s .superblock) (turn-below c))
 
-column-is : (c : tie.After-block-x Inv-loop μ-loop) → c .block-x .result ≡ blockX (c .before .before .before .before .before .args .width) (levelOf (c .before .before .before .before .before .args .level) .refined) (c .before .before .before .before .before .args .superblock) (c .before .before .loop .k)
+column-is : (c : tie.After-block-x Inv-loop μ-loop) → c .block-x .result ≡ blockX (c .before .before .before .before .before .args .s .frame .width) (levelOf (c .before .before .before .before .before .args .s .level) .refined) (c .before .before .before .before .before .args .s .superblock) (c .before .before .loop .k)
 column-is c =
     let a = c .before .before .before .before .before .args in
-    c .block-x .ensures ∙ ap (λ (size : ℕ). blockX (a .width) size (a .superblock) (c .before .before .loop .k)) (size-is (c .before))
+    c .block-x .ensures ∙ ap (λ (size : ℕ). blockX (a .s .frame .width) size (a .s .superblock) (c .before .before .loop .k)) (size-is (c .before))
 
-row-is : (c : tie.After-block-y Inv-loop μ-loop) → c .block-y .result ≡ blockY (c .before .before .before .before .before .before .args .width) (levelOf (c .before .before .before .before .before .before .args .level) .refined) (c .before .before .before .before .before .before .args .superblock) (c .before .before .before .loop .k)
+row-is : (c : tie.After-block-y Inv-loop μ-loop) → c .block-y .result ≡ blockY (c .before .before .before .before .before .before .args .s .frame .width) (levelOf (c .before .before .before .before .before .before .args .s .level) .refined) (c .before .before .before .before .before .before .args .s .superblock) (c .before .before .before .loop .k)
 row-is c =
     let a = c .before .before .before .before .before .before .args in
-    c .block-y .ensures ∙ ap (λ (size : ℕ). blockY (a .width) size (a .superblock) (c .before .before .before .loop .k)) (size-is (c .before .before))
+    c .block-y .ensures ∙ ap (λ (size : ℕ). blockY (a .s .frame .width) size (a .s .superblock) (c .before .before .before .loop .k)) (size-is (c .before .before))
 
 -- the answer of the turn's test
-test-is : (c : tie.After-ok Inv-loop μ-loop) → c .ok .result ≡ passes (c .before .before .before .before .before .before .before .before .args .width) (c .before .before .before .before .before .before .before .before .args .height) (c .before .before .before .before .before .before .before .before .args .level) (c .before .before .before .before .before .before .before .before .args .superblock) (now (c .before .before .before .before .before .before .before .before .args .rows)) (now (c .before .before .before .before .before .before .before .before .args .cols)) (c .before .before .before .before .before .loop .k)
+test-is : (c : tie.After-ok Inv-loop μ-loop) → c .ok .result ≡ passes (c .before .before .before .before .before .before .before .before .args .s .frame .width) (c .before .before .before .before .before .before .before .before .args .s .frame .height) (c .before .before .before .before .before .before .before .before .args .s .level) (c .before .before .before .before .before .before .before .before .args .s .superblock) (now (c .before .before .before .before .before .before .before .before .args .rows)) (now (c .before .before .before .before .before .before .before .before .args .cols)) (c .before .before .before .before .before .loop .k)
 test-is c =
     let a = c .before .before .before .before .before .before .before .before .args in
     c .ok .ensures
-    ∙ ap windowOk (c .before .window-at .ensures ∙ ap₂ (λ (x y : ℕ). windowAt (a .width) (a .height) (a .level) x y (now (a .rows)) (now (a .cols))) (column-is (c .before .before .before)) (row-is (c .before .before)))
+    ∙ ap windowOk (c .before .window-at .ensures ∙ ap₂ (λ (x y : ℕ). windowAt (a .s .frame .width) (a .s .frame .height) (a .s .level) x y (now (a .rows)) (now (a .cols))) (column-is (c .before .before .before)) (row-is (c .before .before)))
 
 level-of-requires : tie.Need-level-of-requires Inv-loop μ-loop
 level-of-requires c κs = search needs
@@ -74,7 +74,7 @@ refined-count-requires c κs = c .before .pre .0
 loop-holds : tie.Need-loop-holds Inv-loop μ-loop
 loop-holds c =
     let a = c .before .before .args in
-    (omega arith, below-none (passes (a .width) (a .height) (a .level) (a .superblock) (now (a .rows)) (now (a .cols))))
+    (omega arith, below-none (passes (a .s .frame .width) (a .s .frame .height) (a .s .level) (a .s .superblock) (now (a .rows)) (now (a .cols))))
 
 block-x-requires : tie.Need-block-x-requires Inv-loop μ-loop
 block-x-requires c κs = (asked c .0, asked c .2, asked c .3)
@@ -87,8 +87,8 @@ window-at-requires c κs =
     let entry = c .before .before .before .before .before .before in
     let a = entry .args in
     let pre = entry .pre .0 in
-    let below = refined-below (a .width) (a .height) (a .level) (a .superblock) (turn-below (c .before .before)) in
-    let starts = placed-at (refined-tabled (a .level)) (pre .0) (pre .1) (pre .3) (c .before .before .before .loop .k) below (column-is (c .before)) (row-is c) in
+    let below = refined-below (a .s .frame .width) (a .s .frame .height) (a .s .level) (a .s .superblock) (turn-below (c .before .before)) in
+    let starts = placed-at (refined-tabled (a .s .level)) (pre .0) (pre .1) (pre .3) (c .before .before .before .loop .k) below (column-is (c .before)) (row-is c) in
     ((pre .0, pre .1, pre .2), (starts, entry .pre .1))
 
 ok-requires : tie.Need-ok-requires Inv-loop μ-loop
@@ -99,7 +99,7 @@ unfolding windowsOk
 returns c =
     let turn = c .before .before .before .before .before in
     let a = turn .before .before .before .before .args in
-    sym (below-fails (refinedCount (a .width) (a .height) (a .level) (a .superblock)) (passes (a .width) (a .height) (a .level) (a .superblock) (now (a .rows)) (now (a .cols))) (turn .before .loop .k) (turn-below turn) (failed (test-is (c .before)) (c .if1 .taken)))
+    sym (below-fails (refinedCount (a .s .frame .width) (a .s .frame .height) (a .s .level) (a .s .superblock)) (passes (a .s .frame .width) (a .s .frame .height) (a .s .level) (a .s .superblock) (now (a .rows)) (now (a .cols))) (turn .before .loop .k) (turn-below turn) (failed (test-is (c .before)) (c .if1 .taken)))
 
 add-k : tie.Need-add-k Inv-loop μ-loop
 add-k c = omega arith
@@ -111,14 +111,14 @@ loop-again : tie.Need-loop-again Inv-loop μ-loop
 loop-again c =
     let turn = c .before .before .before .before .before in
     let a = turn .before .before .before .before .args in
-    (omega arith, below-more (turn .before .loop .k) (passes (a .width) (a .height) (a .level) (a .superblock) (now (a .rows)) (now (a .cols))) (turn .before .loop .inv .1) (passed (test-is (c .before)) (c .if1 .left)))
+    (omega arith, below-more (turn .before .loop .k) (passes (a .s .frame .width) (a .s .frame .height) (a .s .level) (a .s .superblock) (now (a .rows)) (now (a .cols))) (turn .before .loop .inv .1) (passed (test-is (c .before)) (c .if1 .left)))
 
 returns-2 : tie.Need-returns-2 Inv-loop μ-loop
 unfolding windowsOk
 returns-2 c =
     let a = c .before .before .before .before .args in
-    let done : refinedCount (a .width) (a .height) (a .level) (a .superblock) ≡ c .before .loop .k = omega (arith, c .before .before .refined-count .ensures) in
-    sym (ap (λ (m : ℕ). allBelow m (passes (a .width) (a .height) (a .level) (a .superblock) (now (a .rows)) (now (a .cols)))) done ∙ c .before .loop .inv .1)
+    let done : refinedCount (a .s .frame .width) (a .s .frame .height) (a .s .level) (a .s .superblock) ≡ c .before .loop .k = omega (arith, c .before .before .refined-count .ensures) in
+    sym (ap (λ (m : ℕ). allBelow m (passes (a .s .frame .width) (a .s .frame .height) (a .s .level) (a .s .superblock) (now (a .rows)) (now (a .cols)))) done ∙ c .before .loop .inv .1)
 
 pub windows-ok-spec : {M : Type 1} → statement M
 windows-ok-spec =

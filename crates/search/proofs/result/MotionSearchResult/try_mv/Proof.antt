@@ -26,7 +26,7 @@ returns : tie.Need-returns
 returns c =
     let a = c .before .before .before .before .args in
     let out = failed (c .before .holds .ensures) (c .if1 .taken) in
-    sym (one-most (rdAt (a .b) (now (a .cur)) (now (a .reference)) (a .weight)) (a .self) (a .cand-mv) (rd-out (a .b) (now (a .cur)) (now (a .reference)) (a .weight) (a .cand-mv) out) (omega arith))
+    sym (one-most (rdAt (a .b) (now (a .cur)) (now (a .reference))) (a .self) (a .cand-mv) (rd-out (a .b) (now (a .cur)) (now (a .reference)) (a .cand-mv) out) (omega arith))
 
 org-start-requires : tie.Need-org-start-requires
 org-start-requires c κs = search needs
@@ -55,9 +55,9 @@ returns-2 c =
     let a = starts .before .before .before .before .before .before .args in
     let held = in-range (starts .before .before) in
     let sad = sad-from (a .b) (a .cand-mv) held _ _ (starts .before .org-start .ensures) (starts .ref-start .ensures) (now (a .cur)) (now (a .reference)) (cost .before .get-sad .ensures) in
-    let rd : cost .compute-mv-rd .result ≡ rdAt (a .b) (now (a .cur)) (now (a .reference)) (a .weight) (a .cand-mv) =
-    cost .compute-mv-rd .ensures ∙ ap (λ (s : ℕ). rdOf (a .weight) s (a .cand-mv)) sad
-    ∙ sym (rd-in (a .b) (now (a .cur)) (now (a .reference)) (a .weight) (a .cand-mv) held) in
+    let rd : cost .compute-mv-rd .result ≡ rdAt (a .b) (now (a .cur)) (now (a .reference)) (a .cand-mv) =
+    cost .compute-mv-rd .ensures ∙ ap (λ (s : ℕ). rdOf (a .b .weight) s (a .cand-mv)) sad
+    ∙ sym (rd-in (a .b) (now (a .cur)) (now (a .reference)) (a .cand-mv) held) in
     c .or-cheaper .ensures ∙ ap (λ (rd : MVCandidateRD). cheaper (a .self) (record { mv = a .cand-mv; rd = rd })) rd
 
 pub try-mv-spec : {M : Type 1} → statement M
