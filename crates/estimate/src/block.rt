@@ -133,7 +133,7 @@ fn extensive_search(
         return near;
     }
     let before = try_cands(b, cur, reference, subset_c, p.c_count);
-    let best = near.or_cheaper(before);
+    let best = near.move_to(before);
     if best.rd.sad < p.threshold {
         return best;
     }

@@ -98,7 +98,7 @@ fn square_refine(
 {
     let empty = MotionSearchResult::empty();
     let best_cand = try_pattern(b, cur, reference, Pattern::Square, current.mv, empty);
-    current.or_cheaper(best_cand)
+    current.move_to(best_cand)
 }
 
 // Moves by the hexagon while it finds a cheaper point, then tries the square once.

@@ -33,8 +33,8 @@ impl MotionSearchResult {
         }
     }
 
-    // The cheaper of two; the first of equals stays.
-    pub fn or_cheaper(self, other: MotionSearchResult) -> MotionSearchResult
+    // Moves to another record if that is cheaper; the first of equals stays.
+    pub fn move_to(self, other: MotionSearchResult) -> MotionSearchResult
         ensures { λ r. ⌜ r ≡ cheaper self other ⌝ }
     {
         if other.rd.cost < self.rd.cost {
@@ -63,7 +63,7 @@ impl MotionSearchResult {
         let dst = ref_start(b, cand_mv);
         let sad = get_sad(cur, src, reference, dst, b.stride, b.w, b.h);
         let rd = compute_mv_rd(b.weight, sad, cand_mv);
-        self.or_cheaper(MotionSearchResult { mv: cand_mv, rd })
+        self.move_to(MotionSearchResult { mv: cand_mv, rd })
     }
 }
 

@@ -48,8 +48,8 @@ missed c =
     let entry = c .before .before .before .before .before .before .before .before in
     subst (λ (m : MotionSearchResult). entry .args .p .threshold ≤ m .rd .sad) (near-is (c .before .before .before)) (c .if1 .left)
 
-kept-is : (c : tie.After-or-cheaper) → c .or-cheaper .result ≡ kept (cost (c .before .before .before .before .before .before .before .before .before .before)) (c .before .before .before .before .before .before .before .before .before .before .args .p)
-kept-is c = c .or-cheaper .ensures ∙ ap₂ cheaper (near-is (c .before .before .before .before .before)) (c .before .try-cands2 .ensures)
+kept-is : (c : tie.After-move-to) → c .move-to .result ≡ kept (cost (c .before .before .before .before .before .before .before .before .before .before)) (c .before .before .before .before .before .before .before .before .before .before .args .p)
+kept-is c = c .move-to .ensures ∙ ap₂ cheaper (near-is (c .before .before .before .before .before)) (c .before .try-cands2 .ensures)
 
 try-cands-requires : tie.Need-try-cands-requires
 try-cands-requires c κs = search needs
@@ -64,8 +64,8 @@ returns c =
 try-cands-requires-2 : tie.Need-try-cands-requires-2
 try-cands-requires-2 c κs = search needs
 
-or-cheaper-requires : tie.Need-or-cheaper-requires
-or-cheaper-requires c κs = search needs
+move-to-requires : tie.Need-move-to-requires
+move-to-requires c κs = search needs
 
 returns-2 : tie.Need-returns-2
 returns-2 c =
@@ -100,7 +100,7 @@ extensive-search-spec =
     try-cands-requires
     returns
     try-cands-requires-2
-    or-cheaper-requires
+    move-to-requires
     returns-2
     uneven-multi-hex-search-requires
     returns-3)

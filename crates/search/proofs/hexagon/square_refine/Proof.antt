@@ -19,16 +19,16 @@ try-pattern-requires : tie.Need-try-pattern-requires
 unfolding Plain
 try-pattern-requires c κs = (c .before .before .before .pre .0, (tt, c .before .before .before .pre .1))
 
-or-cheaper-requires : tie.Need-or-cheaper-requires
-or-cheaper-requires c κs = search needs
+move-to-requires : tie.Need-move-to-requires
+move-to-requires c κs = search needs
 
 returns : tie.Need-returns
 unfolding squareRound
 returns c =
     let a = c .before .before .before .before .before .args in
-    c .or-cheaper .ensures
+    c .move-to .ensures
     ∙ ap (cheaper (a .current)) (c .before .try-pattern .ensures ∙ ap (λ (m : MotionSearchResult). tryPattern (rdAt (a .b) (now (a .cur)) (now (a .reference))) m Square (a .current .mv)) (c .before .before .empty .ensures))
 
 pub square-refine-spec : {M : Type 1} → statement M
 square-refine-spec =
-    tie.close (tie.spec empty-requires try-pattern-requires or-cheaper-requires returns)
+    tie.close (tie.spec empty-requires try-pattern-requires move-to-requires returns)

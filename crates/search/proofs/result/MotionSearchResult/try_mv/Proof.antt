@@ -44,8 +44,8 @@ get-sad-requires c κs =
 compute-mv-rd-requires : tie.Need-compute-mv-rd-requires
 compute-mv-rd-requires c κs = search needs
 
-or-cheaper-requires : tie.Need-or-cheaper-requires
-or-cheaper-requires c κs = search needs
+move-to-requires : tie.Need-move-to-requires
+move-to-requires c κs = search needs
 
 returns-2 : tie.Need-returns-2
 unfolding tryOne
@@ -58,7 +58,7 @@ returns-2 c =
     let rd : cost .compute-mv-rd .result ≡ rdAt (a .b) (now (a .cur)) (now (a .reference)) (a .cand-mv) =
     cost .compute-mv-rd .ensures ∙ ap (λ (s : ℕ). rdOf (a .b .weight) s (a .cand-mv)) sad
     ∙ sym (rd-in (a .b) (now (a .cur)) (now (a .reference)) (a .cand-mv) held) in
-    c .or-cheaper .ensures ∙ ap (λ (rd : MVCandidateRD). cheaper (a .self) (record { mv = a .cand-mv; rd = rd })) rd
+    c .move-to .ensures ∙ ap (λ (rd : MVCandidateRD). cheaper (a .self) (record { mv = a .cand-mv; rd = rd })) rd
 
 pub try-mv-spec : {M : Type 1} → statement M
 try-mv-spec =
@@ -70,5 +70,5 @@ try-mv-spec =
     ref-start-requires
     get-sad-requires
     compute-mv-rd-requires
-    or-cheaper-requires
+    move-to-requires
     returns-2)
