@@ -2,7 +2,7 @@
 use mathlib.Core.Path.{_≡_, sym, ap, _∙_}
 use mathlib.Core.Logic.{⊎-elim}
 use mathlib.Core.Bool.{true, false, true≢false}
-use mathlib.Core.List.{List, [], _∷_, _++_}
+use mathlib.Core.List.{List, _∷_, _++_}
 use Prim.Native.Nat.{ℕ, _+_, _*_, _<_}
 use native.Mathlib.Nat.{eq-zero-or-pos}
 use native.Mathlib.Omega.{arith}
@@ -13,7 +13,7 @@ use lib.Seq.{getD-append-seam}
 use Rattle.ground.proofs.TestLaws.{tested, not-so}
 use Rattle.ground.proofs.EveryLaws.{below-at}
 use Rattle.order.specs.List.{times, namesEach, before, sharesEdge, allEarlier, keepsRaster, listRefusal}
-use Rattle.order.specs.Pairs.{NamesOnce, Against, Tested, ListTest}
+use Rattle.order.specs.Pairs.{NamesOnce, Against, ListTest}
 use Rattle.order.proofs.EdgeLaws.{earlier-at}
 use Rattle.order.proofs.TimesLaws.{times-here, times-past, times-append, around, names-once, names-below, names-long, names-by, below-in}
 use Rattle.order.proofs.OrderLaws.{before-around}

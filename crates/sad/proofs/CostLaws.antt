@@ -1,10 +1,13 @@
 -- The cost of a candidate by cases, and the bounds that make u32 and u64 enough. Assumes nothing.
 use mathlib.Core.Path.{_≡_, sym, ap, ap₂, subst, _∙_}
 use mathlib.Core.Bool.{Bool, true, false, cond}
+use mathlib.Core.Logic.{_⊎_, inl, inr}
 use mathlib.Core.List.{List}
 use Prim.Native.Nat.{ℕ, _-_, _*_, _≤_, _<_, _^_}
 use native.Mathlib.Nat.{le-trans, mul-le-mul, mul-le-mul-left, mul-le-mul-right}
 use native.Mathlib.Omega.{arith}
+use lib.ListN.{getD}
+use Rattle.ground.proofs.TestLaws.{tested}
 use Rattle.motion.specs.declared.block.Block.{Block}
 use Rattle.motion.specs.declared.vector.MotionVector.{MotionVector}
 use Rattle.motion.specs.Limits.{largestSample}
@@ -14,7 +17,7 @@ use Rattle.sad.specs.Sad.{sadBlock}
 use Rattle.sad.specs.Asked.{Inside, largestBlock, Measured, Lies}
 use Rattle.sad.specs.Plane.{orgStart, refStart}
 use Rattle.sad.specs.Cost.{emptyRd, rdOf, sadAt, rdAt}
-use Rattle.sad.proofs.Sums.{Under, block-le}
+use Rattle.sad.proofs.Sums.{Under, block-le, block-same}
 
 -- the largest sum that a block of bytes has
 abbrev pub mostSad : ℕ
@@ -58,3 +61,15 @@ module _ (b : Block) (v : MotionVector) (held : inRange (b .range) v ≡ true) (
   pub sad-from : (cur refs : List ℕ) {r : ℕ} → r ≡ sadBlock cur s refs d (b .stride) (b .w) (b .h) → r ≡ sadAt b cur refs v
   unfolding sadAt
   sad-from cur refs e = e ∙ ap₂ (λ (s d : ℕ). sadBlock cur s refs d (b .stride) (b .w) (b .h)) org ref
+
+-- nor do samples past those that a block lies in
+module _ (b : Block) (n : ℕ) (cur cur′ ref ref′ : List ℕ) (lies : Lies b n) (hc : (k : ℕ) → k < n → getD cur k 0 ≡ getD cur′ k 0) (hr : (k : ℕ) → k < n → getD ref k 0 ≡ getD ref′ k 0) where
+  rd-by : (v : MotionVector) → (inRange (b .range) v ≡ true) ⊎ (inRange (b .range) v ≡ false) → rdAt b cur ref v ≡ rdAt b cur′ ref′ v
+  unfolding rdAt sadAt
+  rd-by v (inl e) =
+      ap (λ (s : ℕ). cond (inRange (b .range) v) (rdOf (b .weight) s v) emptyRd)
+      (block-same n cur cur′ ref ref′ hc hr (orgStart b) (refStart b v) (b .stride) (b .w) (b .h) (lies .org) (lies .ref v e))
+  rd-by v (inr e) = rw e
+
+  pub rd-same : rdAt b cur ref ≡ rdAt b cur′ ref′
+  rd-same = λ i v. rd-by v (tested (inRange (b .range) v)) i

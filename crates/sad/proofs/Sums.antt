@@ -1,5 +1,5 @@
 -- Laws of sums of absolute differences: one term more, and the bounds. Assumes nothing.
-use mathlib.Core.Path.{_≡_, refl, sym, ap}
+use mathlib.Core.Path.{_≡_, refl, sym, ap, ap₂}
 use mathlib.Core.List.{List}
 use Prim.Native.Nat.{ℕ, zero, suc, _+_, _-_, _*_, _≤_, _<_, zero-le}
 use native.Mathlib.Nat.{le-suc, le-refl, mul-suc, add-le-add, le-trans, le-of-eq}
@@ -7,6 +7,7 @@ use native.Mathlib.Numerals.{add-one}
 use native.Mathlib.Omega.{arith}
 use lib.ListN.{getD}
 use Rattle.sad.specs.Sad.{sumTo, absDiff, sadRow, sadBlock}
+use Rattle.sad.specs.Asked.{Inside}
 
 sum-more : (i : ℕ) (f : ℕ → ℕ) → sumTo (i + 1) f ≡ sumTo i f + f i
 unfolding sumTo
@@ -58,3 +59,20 @@ module _ (m : ℕ) (cur ref : List ℕ) (hc : Under m cur) (hr : Under m ref) wh
   block-le src dst stride w h =
       sum-le h (m * w) (λ y. sadRow cur (src + y * stride) ref (dst + y * stride) w)
       (λ y p. row-le (src + y * stride) (dst + y * stride) w)
+
+-- samples past those that are summed do not count
+sum-same : (n : ℕ) (f g : ℕ → ℕ) → ((i : ℕ) → i < n → f i ≡ g i) → sumTo n f ≡ sumTo n g
+unfolding sumTo
+sum-same zero f g h = refl
+sum-same (suc n) f g h = ap₂ _+_ (sum-same n f g (λ i p. h i (omega arith))) (h n (omega arith))
+
+module _ (n : ℕ) (cur cur′ ref ref′ : List ℕ) (hc : (k : ℕ) → k < n → getD cur k 0 ≡ getD cur′ k 0) (hr : (k : ℕ) → k < n → getD ref k 0 ≡ getD ref′ k 0) where
+  row-same : (src dst w : ℕ) → src + w ≤ n → dst + w ≤ n → sadRow cur src ref dst w ≡ sadRow cur′ src ref′ dst w
+  unfolding sadRow
+  row-same src dst w p q =
+      sum-same w _ _ (λ x less. ap₂ absDiff (hc (src + x) (omega arith)) (hr (dst + x) (omega arith)))
+
+  pub block-same : (src dst stride w h : ℕ) → Inside n src stride w h → Inside n dst stride w h → sadBlock cur src ref dst stride w h ≡ sadBlock cur′ src ref′ dst stride w h
+  unfolding sadBlock
+  block-same src dst stride w h p q =
+      sum-same h _ _ (λ y less. row-same (src + y * stride) (dst + y * stride) w (p y less) (q y less))

@@ -33,10 +33,11 @@ use Rattle.order.specs.List.{raster}
 use Rattle.order.proofs.EdgeLaws.{some-of}
 use Rattle.order.proofs.Accepted.{raster-accepted}
 use Rattle.theorems.specs.Cells.{ownCell, AgreeOn}
+use Rattle.theorems.specs.Rest.{SameInside}
 use Rattle.theorems.proofs.CellLaws.{own-of}
 use Rattle.theorems.proofs.OrderLaws.{AcceptedList, order}
 use Rattle.theorems.proofs.BlockReads.{SameAt, estimate-reads}
-use Rattle.theorems.proofs.Inside.{SameInside, saved-same, run-same}
+use Rattle.theorems.proofs.Inside.{saved-same, run-same}
 
 same-taken : {g h : Grid} (t : Bool) (i : ℕ) → (t ≡ true → statsAt g i ≡ statsAt h i) → SameAt g h (taken t i)
 unfolding taken

@@ -31,8 +31,8 @@ same-map f [] e = refl
 same-map f (i ∷ is) e = ap₂ _∷_ (ap f (e .each 0 (omega arith))) (same-map f is (record { each = λ k p. e .each (suc k) (omega arith) }))
 
 -- what a block saves depends on the cells that it samples alone
-module _ (width height level bx by : ℕ) (present : Bool) (prev g h : Grid) (b : SameAt g h (cellsB width height level bx by)) (centre : SameAt g h (cellsCentre width height level bx by)) where
-  subsets-read : subsetsOf width height level bx by present prev g ≡ subsetsOf width height level bx by present prev h
+module _ (width height level bx by : ℕ) (present : Bool) (prev before g h : Grid) (b : SameAt g h (cellsB width height level bx by)) (c : SameAt prev before (cellsC width height level bx by present)) (centre : SameAt g h (cellsCentre width height level bx by)) where
+  pub subsets-read : subsetsOf width height level bx by present prev g ≡ subsetsOf width height level bx by present before h
   unfolding subsetsOf predictorsAt sadsAt
   subsets-read =
       let block = blockOf width height (levelOf level) (levelOf level .«mv_size») bx by in
@@ -42,18 +42,18 @@ module _ (width height level bx by : ℕ) (present : Bool) (prev g h : Grid) (b 
       let vm = same-map vector (cellsCentre width height level bx by) centre in
       let sb = same-map (λ (x : MEStats). x .«normalized_sad») (cellsB width height level bx by) b in
       let sm = same-map (λ (x : MEStats). x .«normalized_sad») (cellsCentre width height level bx by) centre in
-      let vc = predictorsAt (block .range) s prev (cellsC width height level bx by present) in
-      let sc = sadsAt prev (cellsC width height level bx by present) in
+      let vc = same-map vector (cellsC width height level bx by present) c in
+      let sc = same-map (λ (x : MEStats). x .«normalized_sad») (cellsC width height level bx by present) c in
       let area = block .w * block .h in
       λ j.
       record {
-        «min_sad» = minimumSad (leastOf (sb j ++ sc ++ sm j)) area;
-        threshold = stopThreshold (minimumSad (leastOf (sb j ++ sc ++ sm j)) area) area;
+        «min_sad» = minimumSad (leastOf (sb j ++ sc j ++ sm j)) area;
+        threshold = stopThreshold (minimumSad (leastOf (sb j ++ sc j ++ sm j)) area) area;
         center = getD (vm j) 0 zeroV;
         «b_count» = length (vb j ++ (zeroV ∷ []));
-        «c_count» = length vc;
+        «c_count» = length (vc j);
         «subset_b» = slotted zeroV (vb j ++ (zeroV ∷ []));
-        «subset_c» = slotted zeroV vc;
+        «subset_c» = slotted zeroV (vc j);
       }
 
 pub estimate-reads : (i : Inputs) (p : Previous) (bx by : ℕ) (g h : Grid) → SameAt g h (cellsB (i .width) (i .height) (i .level) bx by) → SameAt g h (cellsCentre (i .width) (i .height) (i .level) bx by) → estimateMotion i p bx by g ≡ estimateMotion i p bx by h
@@ -61,7 +61,7 @@ unfolding estimateMotion
 estimate-reads i p bx by g h b centre =
     let block = blockIn i (levelOf (i .level) .«mv_size») bx by in
     ap (λ (mvs : MotionEstimationSubsets). statsOf (levelOf (i .level) .ssdec) (block .w) (block .h) (fullPixelMe (costIn i block) (i .level) mvs))
-    (subsets-read (i .width) (i .height) (i .level) bx by (p .present) (p .grid) g h b centre)
+    (subsets-read (i .width) (i .height) (i .level) bx by (p .present) (p .grid) (p .grid) g h b (record { each = λ k less. refl }) centre)
 
 -- and a refinement, on the block's first cell
 module _ (bx by : ℕ) (g h : Grid) where

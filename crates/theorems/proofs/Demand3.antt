@@ -1,9 +1,9 @@
 -- Demand 3 holds, sentence by sentence. Assumes nothing.
-use mathlib.Core.Path.{_≡_, refl, sym, ap, subst, _∙_}
+use mathlib.Core.Path.{_≡_, sym, ap, subst, _∙_}
 use mathlib.Core.Logic.{⊎-elim}
-use mathlib.Core.Bool.{Bool, true, false, cond}
+use mathlib.Core.Bool.{true, false}
 use mathlib.Core.List.{List}
-use Prim.Native.Nat.{ℕ, _≤_, _<_, _^_}
+use Prim.Native.Nat.{ℕ, _≤_, _<_}
 use borrow.Author.Tests.{eq-eqb, eqb-true}
 use lib.Dec.{eqb}
 use Rattle.ground.proofs.TestLaws.{tested}
@@ -12,10 +12,8 @@ use Rattle.grid.specs.Grid.{Grid, cells, statsAt}
 use Rattle.grid.specs.Previous.{previous}
 use Rattle.refusal.proofs.RefusalLaws.{none-of, then-later}
 use Rattle.estimate.specs.Inputs.{Planes, planeAt, inputsOf}
-use Rattle.superblock.specs.Step.{step}
 use Rattle.frame.specs.Run.{frameRun}
 use Rattle.order.specs.List.{raster, listRefusal}
-use Rattle.order.specs.Pairs.{NamesOnce, Against}
 use Rattle.order.proofs.Accepted.{raster-taken}
 use Rattle.order.proofs.Pairs.{list-test}
 use Rattle.steps.specs.Steps.{stepTests, stepRefusal, stepGrid}
@@ -23,7 +21,7 @@ use Rattle.steps.proofs.ReadyLaws.{step-ready}
 use Rattle.inter.specs.Runs.{runTests, runRefusal, runGrid}
 use Rattle.inter.proofs.ReadyLaws.{run-ready}
 use Rattle.theorems.specs.Steps.{StepsLeave}
-use Rattle.theorems.specs.Demand3.{OfSamples, Demand3, Holds}
+use Rattle.theorems.specs.Demand3.{Holds}
 use Rattle.theorems.proofs.OrderLaws.{order}
 use Rattle.theorems.proofs.Before.{whatever-before}
 use Rattle.theorems.proofs.Past.{step-past, past-stays}

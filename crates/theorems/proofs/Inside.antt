@@ -28,14 +28,8 @@ use Rattle.superblock.specs.Step.{blockCount, blockX, blockY, worked, refinedCo
 use Rattle.superblock.proofs.GeometryLaws.{own-tabled, refined-tabled, placed}
 use Rattle.superblock.proofs.StepLaws.{refined-below}
 use Rattle.frame.specs.Run.{levelRun}
-use Rattle.theorems.specs.Cells.{AgreeOn}
+use Rattle.theorems.specs.Rest.{SameInside}
 use Rattle.theorems.proofs.BlockReads.{estimate-reads, refine-reads, window-reads}
-
--- two grids of a frame's cells, of any lengths, that hold the same in each cell inside the frame
-pub record SameInside (width height : ℕ) (g h : Grid) : Type 0 where
-  pub one : Held width height g
-  pub other : Held width height h
-  pub same : AgreeOn (λ (c : ℕ). c < cells width height) g h
 
 -- a result saved in both
 module _ (width height size bx by : ℕ) (g h : Grid) {s t : MEStats} (e : s ≡ t) (one : Held width height g) (other : Held width height h) where
@@ -65,7 +59,7 @@ module _ (result : ℕ → ℕ → Grid → MEStats) (width height size n count 
         same = λ c p. saved-same width height size bx by a b (reads k (omega arith) a b now) (now .one) (now .other) c p (λ q. now .same c p);
       }
 
-same-if : (t : Bool) (width height : ℕ) {a b g h : Grid} → SameInside width height a b → SameInside width height g h → SameInside width height (cond t a g) (cond t b h)
+pub same-if : (t : Bool) (width height : ℕ) {a b g h : Grid} → SameInside width height a b → SameInside width height g h → SameInside width height (cond t a g) (cond t b h)
 same-if true width height e f = e
 same-if false width height e f = f
 
@@ -89,7 +83,7 @@ module _ (i : Inputs) (p : Previous) (wide : Side (i .width)) (high : Side (i .h
       let starts = placed (refined-tabled (i .level)) wide high below k (refined-below (i .width) (i .height) (i .level) n few) in
       e .same _ (cell-inside (i .width) (i .height) _ _ (starts .0 .inside) (starts .1 .inside))
 
-  windows-same : (g h : Grid) → SameInside (i .width) (i .height) g h → windowsOk (i .width) (i .height) (i .level) n (g .rows) (g .cols) ≡ windowsOk (i .width) (i .height) (i .level) n (h .rows) (h .cols)
+  pub windows-same : (g h : Grid) → SameInside (i .width) (i .height) g h → windowsOk (i .width) (i .height) (i .level) n (g .rows) (g .cols) ≡ windowsOk (i .width) (i .height) (i .level) n (h .rows) (h .cols)
   unfolding windowsOk
   windows-same g h e =
       let size = levelOf (i .level) .refined in

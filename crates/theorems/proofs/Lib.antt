@@ -9,6 +9,9 @@ pub mod Commute
 pub mod OrderLaws
 pub mod Past
 pub mod Inside
+pub mod RestBlocks
+pub mod RestRuns
+pub mod Rest
 pub mod Before
 pub mod WindowSome
 pub mod EstimateStored

@@ -3,5 +3,6 @@
 pub mod Cells
 pub mod Steps
 pub mod Demand3
+pub mod Rest
 pub mod Edges
 pub mod Determined
