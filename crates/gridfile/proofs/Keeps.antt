@@ -11,7 +11,8 @@ use lib.Seq.{take-at}
 use Rattle.motion.specs.Limits.{sideStep, largestSide, cellSide}
 use Rattle.motion.specs.Frame.{Side}
 use Rattle.grid.specs.Grid.{Grid, Held, cells, statsAt, room}
-use Rattle.refusal.specs.Refusals.{refuse, _then_, sideOk, gridOk, gridHolds}
+use Rattle.refusal.specs.Refusals.{refuse, _then_, sideOk}
+use Rattle.refusal.proofs.RefusalLaws.{holds}
 use Rattle.records.specs.Records.{headerRecord, fileBytes}
 use Rattle.gridfile.specs.declared.read.Shape.{Shape}
 use Rattle.gridfile.specs.Writing.{fileOf, writeRefusal, writtenOf, writeAnswer, writtenFile}
@@ -27,13 +28,13 @@ unfolding room
 held-room width height g h = omega arith
 
 -- a write that is not refused
-written-file : (width height : ℕ) (g : Grid) (file : List ℕ) → writeRefusal width height g file ≡ 0 → writtenFile width height g file ≡ fileOf (width / cellSide) (height / cellSide) g ++ drop (fileBytes (cells width height)) file
+written-file : (width height : ℕ) (g : Grid) (file : List ℕ) → writeRefusal width height (room g) (length file) ≡ 0 → writtenFile width height g file ≡ fileOf (width / cellSide) (height / cellSide) g ++ drop (fileBytes (cells width height)) file
 unfolding writtenFile
 written-file width height g file e =
     ap (λ (n : ℕ). cond (eqb n 0) (fileOf (width / cellSide) (height / cellSide) g ++ drop (fileBytes (cells width height)) file) file) e
 
 -- the first bytes are the grid's file
-written-is : (width height : ℕ) (g : Grid) (file : List ℕ) → writeRefusal width height g file ≡ 0 → written width height g file ≡ fileOf (width / cellSide) (height / cellSide) g
+written-is : (width height : ℕ) (g : Grid) (file : List ℕ) → writeRefusal width height (room g) (length file) ≡ 0 → written width height g file ≡ fileOf (width / cellSide) (height / cellSide) g
 unfolding cells
 written-is width height g file e =
     ap (take (fileBytes (cells width height))) (written-file width height g file e)
@@ -65,19 +66,15 @@ write-then-read width height g file lent done fits lends =
       past = file-past columns rows g lent shaped;
     })
 
--- a side and a grid that the tests of writing accept
+-- a side that the tests of writing accept
 side-ok : (n : ℕ) → Side n → sideOk n ≡ true
 unfolding sideOk
 side-ok n s = rw (eq-eqb (n % sideStep) 0 (s .whole), le-leb sideStep n (s .least), le-leb n largestSide (s .most))
 
-grid-holds : (width height : ℕ) (g : Grid) → Held width height g → gridHolds width height g ≡ true
-unfolding gridHolds gridOk
-grid-holds width height g h = rw (le-leb _ _ (h .rows), le-leb _ _ (h .cols), le-leb _ _ (h .sads))
-
-not-refused : {width height : ℕ} {g : Grid} {file : List ℕ} → Writes width height g file → writeRefusal width height g file ≡ 0
+not-refused : {width height : ℕ} {g : Grid} {file : List ℕ} → Writes width height g file → writeRefusal width height (room g) (length file) ≡ 0
 unfolding writeRefusal refuse _then_
 not-refused {width} {height} {g} {file} w =
-    rw (side-ok width (w .wide), side-ok height (w .high), grid-holds width height g (w .held), le-leb _ _ (w .room))
+    rw (side-ok width (w .wide), side-ok height (w .high), holds (w .held), le-leb _ _ (w .room))
 
 cells-of : (columns rows : ℕ) → cells (cellSide * columns) (cellSide * rows) ≡ columns * rows
 unfolding cells
@@ -88,8 +85,8 @@ module _ (file : List ℕ) (columns rows : ℕ) (g : Grid) (it : FileOf file col
   same-bytes : fileBytes (cells (cellSide * columns) (cellSide * rows)) ≡ length file
   same-bytes = ap fileBytes (cells-of columns rows) ∙ sym (length-file columns rows g) ∙ ap length (it .bytes)
 
-  done : writeRefusal (cellSide * columns) (cellSide * rows) g lent ≡ 0
-  done = not-refused (record { wide = it .wide; high = it .high; held = it .held; room = omega (arith, same-bytes) })
+  done : writeRefusal (cellSide * columns) (cellSide * rows) (room g) (length lent) ≡ 0
+  done = not-refused {file = lent} (record { wide = it .wide; high = it .high; held = it .held; room = omega (arith, same-bytes) })
 
   same-file : fileOf (cellSide * columns / cellSide) (cellSide * rows / cellSide) g ≡ file
   same-file = ap₂ (λ (x y : ℕ). fileOf x y g) (omega arith) (omega arith) ∙ it .bytes

@@ -11,7 +11,7 @@ use lib.Seq.{sets, sets-eq}
 use Rattle.ground.proofs.TestLaws.{both}
 use Rattle.motion.specs.Limits.{largestSide, cellSide}
 use Rattle.motion.specs.Frame.{Side}
-use Rattle.grid.specs.Grid.{Grid, Held, cells, statsAt}
+use Rattle.grid.specs.Grid.{Grid, Held, cells, statsAt, room}
 use Rattle.refusal.specs.Refusals.{sideOk}
 use Rattle.refusal.proofs.RefusalLaws.{first-passed, passes, side-of, held}
 use Rattle.records.specs.Records.{headerBytes, headerRecord, cellBytes, cellRecord, fileBytes}
@@ -51,7 +51,7 @@ pub record Writes (width height : ℕ) (g : Grid) (file : List ℕ) : Type 0 whe
   pub held : Held width height g
   pub room : fileBytes (cells width height) ≤ length file
 
-pub writes : (width height : ℕ) (g : Grid) (file : List ℕ) → writeRefusal width height g file ≡ 0 → Writes width height g file
+pub writes : (width height : ℕ) (g : Grid) (file : List ℕ) → writeRefusal width height (room g) (length file) ≡ 0 → Writes width height g file
 unfolding writeRefusal
 writes width height g file e =
     let one = first-passed 0 _ _ e in

@@ -5,7 +5,7 @@ use Prim.Native.Nat.{ℕ, _*_, _/_, _≤_, _<_}
 use lib.ListN.{length, getD, take, drop}
 use Rattle.motion.specs.Limits.{cellSide}
 use Rattle.motion.specs.Frame.{Side}
-use Rattle.grid.specs.Grid.{Grid, Held, cells, statsAt}
+use Rattle.grid.specs.Grid.{Grid, Held, cells, room, statsAt}
 use Rattle.records.specs.Numbers.{OfBytes}
 use Rattle.records.specs.Records.{FitsCell, fileBytes}
 use Rattle.gridfile.specs.Writing.{fileOf, writeRefusal, writtenOf, writeAnswer, writtenFile}
@@ -34,7 +34,7 @@ pub record ReadsBack (width height : ℕ) (g : Grid) (file : List ℕ) (lent : G
 
 abbrev pub WriteThenRead : Type 0
 WriteThenRead =
-    (width height : ℕ) (g : Grid) (file : List ℕ) (lent : Grid) → writeRefusal width height g file ≡ 0 → FitsCells (cells width height) g → Held width height lent → ReadsBack width height g (written width height g file) lent
+    (width height : ℕ) (g : Grid) (file : List ℕ) (lent : Grid) → writeRefusal width height (room g) (length file) ≡ 0 → FitsCells (cells width height) g → Held width height lent → ReadsBack width height g (written width height g file) lent
 
 -- reading with 0 then writing gives the same bytes, with 0, and the bytes past them stay
 pub record WritesBack (width height : ℕ) (g : Grid) (file lent : List ℕ) : Type 0 where

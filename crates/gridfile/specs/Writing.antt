@@ -5,8 +5,8 @@ use mathlib.Core.List.{List, [], _++_}
 use lib.Dec.{leb, eqb}
 use lib.ListN.{length, drop}
 use Rattle.motion.specs.Limits.{cellSide}
-use Rattle.grid.specs.Grid.{Grid, cells, statsAt}
-use Rattle.refusal.specs.Refusals.{refuse, _then_, sideOk, gridHolds}
+use Rattle.grid.specs.Grid.{Grid, cells, statsAt, room}
+use Rattle.refusal.specs.Refusals.{refuse, _then_, sideOk, gridOk}
 use Rattle.records.specs.Records.{headerRecord, cellRecord, fileBytes}
 use Rattle.gridfile.specs.declared.write.Written.{Written}
 
@@ -19,22 +19,22 @@ cellRecords g i (suc n) = cellRecord (statsAt g i) ++ cellRecords g (suc i) n
 unfoldable pub fileOf : ℕ → ℕ → Grid → List ℕ
 fileOf columns rows g = headerRecord columns rows ++ cellRecords g 0 (columns * rows)
 
--- writing refuses with 1, 5, then 13: the lent bytes are too few
-unfoldable pub writeRefusal : (width height : ℕ) (g : Grid) (file : List ℕ) → ℕ
-writeRefusal width height g file =
+-- writing refuses with 1, 5, then 13: the lent bytes are too few; a grid with room for n cells, so many bytes lent
+unfoldable pub writeRefusal : (width height n bytes : ℕ) → ℕ
+writeRefusal width height n bytes =
     refuse 1 (sideOk width && sideOk height)
-    then refuse 5 (gridHolds width height g)
-    then refuse 13 (leb (fileBytes (cells width height)) (length file))
+    then refuse 5 (gridOk width height n)
+    then refuse 13 (leb (fileBytes (cells width height)) bytes)
 
 -- the refusal, and how many bytes the file has: 0 in a refusal
 unfoldable pub writtenOf : ℕ → ℕ → Written
 writtenOf number bytes = record { code = number; bytes = cond (eqb number 0) bytes 0 }
 
 unfoldable pub writeAnswer : (width height : ℕ) (g : Grid) (file : List ℕ) → Written
-writeAnswer width height g file = writtenOf (writeRefusal width height g file) (fileBytes (cells width height))
+writeAnswer width height g file = writtenOf (writeRefusal width height (room g) (length file)) (fileBytes (cells width height))
 
 -- a refused write leaves the lent bytes; bytes past the file aren't written
 unfoldable pub writtenFile : (width height : ℕ) (g : Grid) (file : List ℕ) → List ℕ
 writtenFile width height g file =
-    cond (eqb (writeRefusal width height g file) 0)
+    cond (eqb (writeRefusal width height (room g) (length file)) 0)
     (fileOf (width / cellSide) (height / cellSide) g ++ drop (fileBytes (cells width height)) file) file

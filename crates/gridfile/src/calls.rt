@@ -24,7 +24,12 @@ pub extern "C" fn lockdapple_grid_write(
     ensures { λ r. ⌜ r ≡ writeAnswer width height (gridOf (now (rows .entry)) (now (cols .entry)) (now (sads .entry))) (now (file .entry)) ⌝ }
     ensures { λ r. ⌜ now (file .exit) ≡ writtenFile width height (gridOf (now (rows .entry)) (now (cols .entry)) (now (sads .entry))) (now (file .entry)) ⌝ }
 {
-    let code = write_refusal(width, height, rows, cols, sads, &*file);
+    let code = write_refusal(
+        width,
+        height,
+        room(rows.len(), cols.len(), sads.len()),
+        file.len(),
+    );
     if code != 0 {
         return Written { code, bytes: 0 };
     }

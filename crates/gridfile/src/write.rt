@@ -18,15 +18,8 @@ pub struct Written {
 }
 
 // The tests behind refusals 1, 5 and 13, in this order.
-pub(crate) fn write_refusal(
-    width: usize,
-    height: usize,
-    rows: &[i16],
-    cols: &[i16],
-    sads: &[u32],
-    file: &[u8],
-) -> u32
-    ensures { λ r. ⌜ r ≡ writeRefusal width height (gridOf (now (rows .entry)) (now (cols .entry)) (now (sads .entry))) (now (file .entry)) ⌝ }
+pub(crate) fn write_refusal(width: usize, height: usize, room: usize, bytes: usize) -> u32
+    ensures { λ r. ⌜ r ≡ writeRefusal width height room bytes ⌝ }
 {
     if !side_ok(width) {
         return 1;
@@ -34,10 +27,10 @@ pub(crate) fn write_refusal(
     if !side_ok(height) {
         return 1;
     }
-    if !grid_ok(width, height, rows.len(), cols.len(), sads.len()) {
+    if !grid_ok(width, height, room) {
         return 5;
     }
-    if file.len() < 4 + 10 * ((width / 4) * (height / 4)) {
+    if bytes < 4 + 10 * ((width / 4) * (height / 4)) {
         return 13;
     }
     0

@@ -9,23 +9,27 @@ use lib.ListN.{length, getD}
 use Rattle.ground.proofs.TestLaws.{both}
 use Rattle.motion.specs.Frame.{Side}
 use Rattle.motion.specs.Superblock.{superblocksAlong, superblocks}
-use Rattle.grid.specs.Grid.{Grid}
-use Rattle.refusal.specs.Refusals.{refuse, _then_, sideOk, gridsHold}
+use Rattle.grid.specs.Grid.{Grid, room}
+use Rattle.refusal.specs.Refusals.{refuse, _then_, sideOk, planesRefusal, gridsHold}
 use Rattle.refusal.proofs.RefusalLaws.{first-passed, passes, none-of, side-of, lent}
 use Rattle.refusal.proofs.GridsLaws.{GridsHeld, grids-held}
 use Rattle.estimate.specs.Inputs.{Planes, planeAt}
 use Rattle.estimate.specs.Asked.{PlaneHeld}
 use Rattle.order.specs.List.{mostSuperblocks, listRefusal}
 use Rattle.order.proofs.Accepted.{accepted}
-use Rattle.inter.specs.Runs.{lentRefusal, runTests}
+use Rattle.inter.specs.Runs.{lengthsOf, runTests}
 
 -- the two planes of a level are long enough
 pub record PlanesHeld (width height : ℕ) (current reference : Planes) (level : ℕ) : Type 0 where
   pub cur : PlaneHeld width height level (planeAt current level)
   pub ref : PlaneHeld width height level (planeAt reference level)
 
+-- the test of the two planes of a level
+abbrev pub lentRefusal : (width height : ℕ) (cur ref : Planes) (level : ℕ) → ℕ
+lentRefusal width height cur ref level =
+    planesRefusal width height level (length (planeAt cur level)) (length (planeAt ref level))
+
 planes-held : (width height : ℕ) (cur ref : Planes) (level : ℕ) → lentRefusal width height cur ref level ≡ 0 → PlanesHeld width height cur ref level
-unfolding lentRefusal
 planes-held width height cur ref level e =
     let lent = lent width height level (length (planeAt cur level)) (length (planeAt ref level)) e in
     record { cur = lent .cur; ref = lent .ref }
@@ -39,11 +43,11 @@ pub record RunReady (width height : ℕ) (cur ref : Planes) (present : ℕ) (pre
   pub full : PlanesHeld width height cur ref 2
   pub grids : GridsHeld width height present prev g
 
-pub run-ready : (width height : ℕ) (cur ref : Planes) (present : ℕ) (prev g : Grid) → runTests width height cur ref present prev g ≡ 0 → RunReady width height cur ref present prev g
-unfolding runTests
+pub run-ready : (width height : ℕ) (cur ref : Planes) (present : ℕ) (prev g : Grid) → runTests width height (lengthsOf cur) (lengthsOf ref) present (room prev) (room g) ≡ 0 → RunReady width height cur ref present prev g
+unfolding runTests lengthsOf planeAt
 run-ready width height cur ref present prev g e =
     let lent : ℕ → ℕ = lentRefusal width height cur ref in
-    let grids = gridsHold width height present prev g in
+    let grids = gridsHold width height present (room prev) (room g) in
     let one = first-passed 0 (sideOk width && sideOk height) (lent 4 then lent 3 then lent 2 then refuse 5 grids) e in
     let quarter = none-of (lent 4) (lent 3 then lent 2 then refuse 5 grids) (one .1) in
     let half = none-of (lent 3) (lent 2 then refuse 5 grids) (quarter .1) in

@@ -1,6 +1,8 @@
+use crate::runs::PlaneLengths;
 use crate::runs::run_tests;
 use estimate::step::Frame;
 use frame::run::frame_run;
+use grid::cells::room;
 use motion::superblock::superblocks_along;
 use order::list::list_refusal;
 ghost use mathlib.Core.Path.{_≡_};
@@ -30,29 +32,31 @@ pub extern "C" fn lockdapple_frame_run(
     ensures { λ r. ⌜ r ≡ runRefusal width height (planesOf (now (cur .entry)) (now («cur_half» .entry)) (now («cur_quarter» .entry))) (planesOf (now (reference .entry)) (now («ref_half» .entry)) (now («ref_quarter» .entry))) present (gridOf (now («prev_rows» .entry)) (now («prev_cols» .entry)) (now («prev_sads» .entry))) (now (list .entry)) (gridOf (now (rows .entry)) (now (cols .entry)) (now (sads .entry))) ⌝ }
     ensures { λ r. ⌜ gridOf (now (rows .exit)) (now (cols .exit)) (now (sads .exit)) ≡ runGrid width height (planesOf (now (cur .entry)) (now («cur_half» .entry)) (now («cur_quarter» .entry))) (planesOf (now (reference .entry)) (now («ref_half» .entry)) (now («ref_quarter» .entry))) present (gridOf (now («prev_rows» .entry)) (now («prev_cols» .entry)) (now («prev_sads» .entry))) 0 (now (list .entry)) (gridOf (now (rows .entry)) (now (cols .entry)) (now (sads .entry))) ⌝ }
 {
+    let cur_lengths = PlaneLengths {
+        full: cur.len(),
+        half: cur_half.len(),
+        quarter: cur_quarter.len(),
+    };
+    let ref_lengths = PlaneLengths {
+        full: reference.len(),
+        half: ref_half.len(),
+        quarter: ref_quarter.len(),
+    };
     let code = run_tests(
         width,
         height,
-        cur,
-        cur_half,
-        cur_quarter,
-        reference,
-        ref_half,
-        ref_quarter,
+        cur_lengths,
+        ref_lengths,
         present,
-        prev_rows,
-        prev_cols,
-        prev_sads,
-        &*rows,
-        &*cols,
-        &*sads,
+        room(prev_rows.len(), prev_cols.len(), prev_sads.len()),
+        room(rows.len(), cols.len(), sads.len()),
     );
     if code != 0 {
         return code;
     }
-    let number = list_refusal(superblocks_along(width), superblocks_along(height), list);
-    if number != 0 {
-        return number;
+    let listed = list_refusal(superblocks_along(width), superblocks_along(height), list);
+    if listed != 0 {
+        return listed;
     }
     let frame = Frame {
         width,

@@ -2,29 +2,26 @@ use refusal::refusals::grids_hold;
 use refusal::refusals::planes_refusal;
 use refusal::refusals::side_ok;
 ghost use mathlib.Core.Path.{_≡_};
-ghost use Rattle.grid.specs.Grid.{gridOf};
-ghost use Rattle.estimate.specs.Inputs.{planesOf};
 ghost use Rattle.inter.specs.Runs.{runTests};
+
+// How long the three planes of a frame are.
+pub struct PlaneLengths {
+    pub full: usize,
+    pub half: usize,
+    pub quarter: usize,
+}
 
 // The tests behind refusals 1, 4 and 5, in their order.
 pub(crate) fn run_tests(
     width: usize,
     height: usize,
-    cur: &[u8],
-    cur_half: &[u8],
-    cur_quarter: &[u8],
-    reference: &[u8],
-    ref_half: &[u8],
-    ref_quarter: &[u8],
+    cur: PlaneLengths,
+    reference: PlaneLengths,
     present: usize,
-    prev_rows: &[i16],
-    prev_cols: &[i16],
-    prev_sads: &[u32],
-    rows: &[i16],
-    cols: &[i16],
-    sads: &[u32],
+    prev_room: usize,
+    room: usize,
 ) -> u32
-    ensures { λ r. ⌜ r ≡ runTests width height (planesOf (now (cur .entry)) (now («cur_half» .entry)) (now («cur_quarter» .entry))) (planesOf (now (reference .entry)) (now («ref_half» .entry)) (now («ref_quarter» .entry))) present (gridOf (now («prev_rows» .entry)) (now («prev_cols» .entry)) (now («prev_sads» .entry))) (gridOf (now (rows .entry)) (now (cols .entry)) (now (sads .entry))) ⌝ }
+    ensures { λ r. ⌜ r ≡ runTests width height cur reference present «prev_room» room ⌝ }
 {
     if !side_ok(width) {
         return 1;
@@ -32,26 +29,16 @@ pub(crate) fn run_tests(
     if !side_ok(height) {
         return 1;
     }
-    if planes_refusal(width, height, 4, cur_quarter, ref_quarter) != 0 {
+    if planes_refusal(width, height, 4, cur.quarter, reference.quarter) != 0 {
         return 4;
     }
-    if planes_refusal(width, height, 3, cur_half, ref_half) != 0 {
+    if planes_refusal(width, height, 3, cur.half, reference.half) != 0 {
         return 4;
     }
-    if planes_refusal(width, height, 2, cur, reference) != 0 {
+    if planes_refusal(width, height, 2, cur.full, reference.full) != 0 {
         return 4;
     }
-    if !grids_hold(
-        width,
-        height,
-        present,
-        prev_rows,
-        prev_cols,
-        prev_sads,
-        rows,
-        cols,
-        sads,
-    ) {
+    if !grids_hold(width, height, present, prev_room, room) {
         return 5;
     }
     0

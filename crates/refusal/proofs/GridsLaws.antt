@@ -5,9 +5,9 @@ use Prim.Native.Nat.{ℕ}
 use native.Mathlib.Omega.{arith}
 use lib.Dec.{eqb}
 use Rattle.ground.proofs.TestLaws.{both}
-use Rattle.grid.specs.Grid.{Grid, Held}
+use Rattle.grid.specs.Grid.{Grid, Held, room}
 use Rattle.grid.specs.Previous.{HeldIf, previous}
-use Rattle.refusal.specs.Refusals.{gridHolds, gridsHold}
+use Rattle.refusal.specs.Refusals.{gridOk, gridsHold}
 use Rattle.refusal.proofs.RefusalLaws.{held}
 
 -- the grid, and a previous grid that is said to be present, hold the frame's cells
@@ -15,12 +15,12 @@ pub record GridsHeld (width height present : ℕ) (prev g : Grid) : Type 0 where
   pub before : HeldIf width height (previous present prev)
   pub held : Held width height g
 
-pub grids-held : (width height present : ℕ) (prev g : Grid) → gridsHold width height present prev g ≡ true → GridsHeld width height present prev g
+pub grids-held : (width height present : ℕ) (prev g : Grid) → gridsHold width height present (room prev) (room g) ≡ true → GridsHeld width height present prev g
 unfolding gridsHold previous
 grids-held width height present prev g e =
-    let parts = both (gridHolds width height g) (eqb present 0 || gridHolds width height prev) e in
+    let parts = both (gridOk width height (room g)) (eqb present 0 || gridOk width height (room prev)) e in
     record {
-      before = λ p. held width height prev (asked (eqb present 0) (gridHolds width height prev) (parts .1) p);
+      before = λ p. held width height prev (asked (eqb present 0) (gridOk width height (room prev)) (parts .1) p);
       held = held width height g (parts .0);
     }
   where

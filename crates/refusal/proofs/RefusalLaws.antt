@@ -2,9 +2,9 @@
 use mathlib.Core.Path.{_≡_, refl, sym, ap, subst, _∙_}
 use mathlib.Core.Bool.{Bool, true, false, _&&_, _||_, cond}
 use mathlib.Core.Logic.{⊎-elim}
-use Prim.Native.Nat.{ℕ, zero, suc, _*_, _/_, _%_, _≤_, _<_}
+use Prim.Native.Nat.{ℕ, zero, suc, _*_, _/_, _%_, _≤_, _<_, min}
 use native.Mathlib.Omega.{arith}
-use borrow.Author.Tests.{leb-true, ltb-true, eqb-true}
+use borrow.Author.Tests.{leb-true, le-leb, ltb-true, eqb-true}
 use lib.Dec.{leb, ltb, eqb}
 use lib.ListN.{length}
 use Rattle.ground.proofs.TestLaws.{both, either}
@@ -13,8 +13,8 @@ use Rattle.motion.specs.Level.{level4, level3, level2, levelOf}
 use Rattle.motion.specs.Frame.{Side, Starts, Sized, Placed, own4, own3, own2, refined3, refined2}
 use Rattle.motion.specs.Block.{planeOf}
 use Rattle.motion.proofs.LevelLaws.{each-level}
-use Rattle.grid.specs.Grid.{Grid, Held, cells}
-use Rattle.refusal.specs.Refusals.{refuse, _then_, sideOk, levelOk, sizeOf, startOk, planeOk, blockRefusal, planesRefusal, gridOk, gridHolds}
+use Rattle.grid.specs.Grid.{Grid, Held, cells, room}
+use Rattle.refusal.specs.Refusals.{refuse, _then_, sideOk, levelOk, sizeOf, startOk, planeOk, blockRefusal, planesRefusal, gridOk}
 
 -- no number at all: the first test passed, and no later one refused
 pub first-passed : (n : ℕ) (t : Bool) (later : ℕ) → refuse (suc n) t then later ≡ 0 → (t ≡ true) × (later ≡ 0)
@@ -128,17 +128,16 @@ planes-short width height level n m h = go (planeOk width height level n && plan
     go true h = absurd (h refl)
     go false h = refl
 
--- what refusal 5 leaves
-pub held : (width height : ℕ) (g : Grid) → gridHolds width height g ≡ true → Held width height g
-unfolding gridHolds gridOk
+-- what refusal 5 leaves, and where it does not come
+pub held : (width height : ℕ) (g : Grid) → gridOk width height (room g) ≡ true → Held width height g
+unfolding gridOk room
 held width height g e =
-    let n = cells width height in
-    let rows = length (g .rows) in
-    let cols = length (g .cols) in
-    let sads = length (g .sads) in
-    let first = both (leb n rows) (leb n cols && leb n sads) e in
-    let rest = both (leb n cols) (leb n sads) (first .1) in
-    record { rows = leb-true n rows (first .0); cols = leb-true n cols (rest .0); sads = leb-true n sads (rest .1) }
+    let enough = leb-true (cells width height) (min (length (g .rows)) (min (length (g .cols)) (length (g .sads)))) e in
+    record { rows = omega (arith, enough); cols = omega (arith, enough); sads = omega (arith, enough) }
+
+pub holds : {width height : ℕ} {g : Grid} → Held width height g → gridOk width height (room g) ≡ true
+unfolding gridOk room
+holds {width} {height} {g} h = le-leb (cells width height) (min (length (g .rows)) (min (length (g .cols)) (length (g .sads)))) (omega (arith, h))
 
 -- sizes are of the table, whatever the numbers
 pub size-bounds : (level refined : ℕ) → (0 < sizeOf level refined) × (sizeOf level refined ≤ 64)

@@ -2,11 +2,10 @@
 use Prim.Native.Nat.{ℕ, zero, suc, _*_, _/_, _%_}
 use mathlib.Core.Bool.{Bool, _&&_, _||_, cond}
 use lib.Dec.{leb, ltb, eqb}
-use lib.ListN.{length}
 use Rattle.motion.specs.Limits.{sideStep, largestSide, cellSide}
 use Rattle.motion.specs.Level.{levelOf}
 use Rattle.motion.specs.Block.{planeOf}
-use Rattle.grid.specs.Grid.{Grid, cells}
+use Rattle.grid.specs.Grid.{cells}
 
 -- a test that refuses with a number where it does not pass
 unfoldable pub refuse : ℕ → Bool → ℕ
@@ -55,15 +54,10 @@ unfoldable pub callRefusal : (width height level refined bx by n m : ℕ) → �
 callRefusal width height level refined bx by n m =
     blockRefusal width height level refined bx by then planesRefusal width height level n m
 
--- 5: none of the grid's three buffers is too short
-unfoldable pub gridOk : (width height rows cols sads : ℕ) → Bool
-gridOk width height rows cols sads =
-    leb (cells width height) rows && (leb (cells width height) cols && leb (cells width height) sads)
+-- 5: a grid with room for n cells is not too short; its shortest buffer counts
+unfoldable pub gridOk : (width height n : ℕ) → Bool
+gridOk width height n = leb (cells width height) n
 
--- the same of a grid's own three buffers
-unfoldable pub gridHolds : ℕ → ℕ → Grid → Bool
-gridHolds width height g = gridOk width height (length (g .rows)) (length (g .cols)) (length (g .sads))
-
--- 5: the grid the call uses, or a previous grid said to be present, is too short; `present` is 0 for an absent one
-unfoldable pub gridsHold : (width height present : ℕ) (prev g : Grid) → Bool
-gridsHold width height present prev g = gridHolds width height g && (eqb present 0 || gridHolds width height prev)
+-- 5: nor is a previous grid that is said to be present, with room for m; `present` is 0 for an absent one
+unfoldable pub gridsHold : (width height present m n : ℕ) → Bool
+gridsHold width height present m n = gridOk width height n && (eqb present 0 || gridOk width height m)

@@ -2,9 +2,7 @@ use motion::block::plane_of;
 use motion::level::level_of;
 ghost use mathlib.Core.Path.{_≡_};
 ghost use Prim.Native.Nat.{_≤_};
-ghost use lib.ListN.{length};
 ghost use Rattle.motion.specs.Limits.{largestSide};
-ghost use Rattle.grid.specs.Grid.{gridOf};
 ghost use Rattle.refusal.specs.Refusals.{sideOk, levelOk, sizeOf, startOk, planeOk, blockRefusal, planesRefusal, callRefusal, gridOk, gridsHold};
 
 const LARGEST_SIDE: usize = 1024;
@@ -95,21 +93,21 @@ fn plane_ok(width: usize, height: usize, level: usize, len: usize) -> bool
     plane.stride * plane.rows <= len
 }
 
-// The test behind refusal 4, of the two planes of a level.
+// The test behind refusal 4, of the lengths of a level's two planes.
 pub fn planes_refusal(
     width: usize,
     height: usize,
     level: usize,
-    cur: &[u8],
-    reference: &[u8],
+    cur: usize,
+    reference: usize,
 ) -> u32
     requires { ⌜ (width ≤ largestSide) × (height ≤ largestSide) ⌝ }
-    ensures { λ r. ⌜ r ≡ planesRefusal width height level (length (now (cur .entry))) (length (now (reference .entry))) ⌝ }
+    ensures { λ r. ⌜ r ≡ planesRefusal width height level cur reference ⌝ }
 {
-    if !plane_ok(width, height, level, cur.len()) {
+    if !plane_ok(width, height, level, cur) {
         return 4;
     }
-    if !plane_ok(width, height, level, reference.len()) {
+    if !plane_ok(width, height, level, reference) {
         return 4;
     }
     0
@@ -123,10 +121,10 @@ pub fn call_refusal(
     refined: usize,
     bx: usize,
     by: usize,
-    cur: &[u8],
-    reference: &[u8],
+    cur: usize,
+    reference: usize,
 ) -> u32
-    ensures { λ r. ⌜ r ≡ callRefusal width height level refined bx by (length (now (cur .entry))) (length (now (reference .entry))) ⌝ }
+    ensures { λ r. ⌜ r ≡ callRefusal width height level refined bx by cur reference ⌝ }
 {
     let code = block_refusal(width, height, level, refined, bx, by);
     if code != 0 {
@@ -135,47 +133,30 @@ pub fn call_refusal(
     planes_refusal(width, height, level, cur, reference)
 }
 
-// The test behind refusal 5: whether a grid of these three lengths holds a frame's cells.
-pub fn grid_ok(width: usize, height: usize, rows: usize, cols: usize, sads: usize) -> bool
+// The test behind refusal 5: whether a grid with room for so many cells holds a frame's.
+pub fn grid_ok(width: usize, height: usize, room: usize) -> bool
     requires { ⌜ (width ≤ largestSide) × (height ≤ largestSide) ⌝ }
-    ensures { λ r. ⌜ r ≡ gridOk width height rows cols sads ⌝ }
+    ensures { λ r. ⌜ r ≡ gridOk width height room ⌝ }
 {
-    let cells = (width / 4) * (height / 4);
-    if rows < cells {
-        return false;
-    }
-    if cols < cells {
-        return false;
-    }
-    cells <= sads
+    (width / 4) * (height / 4) <= room
 }
 
-// The test behind refusal 5: the grid, and a previous one that is said to be present.
+// The test behind refusal 5: the room of the grid, and of a previous one that is said to be present.
 pub fn grids_hold(
     width: usize,
     height: usize,
     present: usize,
-    prev_rows: &[i16],
-    prev_cols: &[i16],
-    prev_sads: &[u32],
-    rows: &[i16],
-    cols: &[i16],
-    sads: &[u32],
+    prev_room: usize,
+    room: usize,
 ) -> bool
     requires { ⌜ (width ≤ largestSide) × (height ≤ largestSide) ⌝ }
-    ensures { λ r. ⌜ r ≡ gridsHold width height present (gridOf (now («prev_rows» .entry)) (now («prev_cols» .entry)) (now («prev_sads» .entry))) (gridOf (now (rows .entry)) (now (cols .entry)) (now (sads .entry))) ⌝ }
+    ensures { λ r. ⌜ r ≡ gridsHold width height present «prev_room» room ⌝ }
 {
-    if !grid_ok(width, height, rows.len(), cols.len(), sads.len()) {
+    if !grid_ok(width, height, room) {
         return false;
     }
     if present == 0 {
         return true;
     }
-    grid_ok(
-        width,
-        height,
-        prev_rows.len(),
-        prev_cols.len(),
-        prev_sads.len(),
-    )
+    grid_ok(width, height, prev_room)
 }

@@ -7,7 +7,7 @@ use Rattle.motion.specs.declared.vector.MotionVector.{MotionVector}
 use Rattle.motion.specs.declared.block.Block.{Block}
 use Rattle.motion.specs.Level.{levelOf}
 use Rattle.motion.specs.Block.{weighed}
-use Rattle.grid.specs.Grid.{cellAt, storedAt}
+use Rattle.grid.specs.Grid.{gridOf, cellAt, storedAt, room}
 use Rattle.refusal.specs.Refusals.{refuse, _then_, callRefusal, gridOk}
 use Rattle.sad.specs.Cost.{rdAt}
 use Rattle.points.specs.Window.{refineWindow, windowOk}
@@ -27,5 +27,5 @@ unfoldable pub refineAnswer : (width height level bx by : ℕ) (cur ref : List �
 refineAnswer width height level bx by cur ref rows cols sads weight =
     let b = weighed (blockAt width height level 1 bx by) weight in
     let stored = storedAt rows cols (cellAt width bx by) in
-    answer (callRefusal width height level 1 bx by (length cur) (length ref) then refuse 5 (gridOk width height (length rows) (length cols) (length sads)))
+    answer (callRefusal width height level 1 bx by (length cur) (length ref) then refuse 5 (gridOk width height (room (gridOf rows cols sads))))
     (windowAnswer b cur ref stored (levelOf level .ssdec))

@@ -2,6 +2,7 @@ use crate::refinement::refine_block;
 use crate::searches::Method;
 use crate::searches::single_search;
 use grid::cells::cell_at;
+use grid::cells::room;
 use grid::cells::stored_at;
 use motion::level::level_of;
 use motion::vector::MotionVector;
@@ -119,11 +120,11 @@ pub extern "C" fn lockdapple_refine(
 ) -> Found
     ensures { λ r. ⌜ r ≡ refineAnswer width height level bx by (now (cur .entry)) (now (reference .entry)) (now (rows .entry)) (now (cols .entry)) (now (sads .entry)) weight ⌝ }
 {
-    let code = call_refusal(width, height, level, 1, bx, by, cur, reference);
+    let code = call_refusal(width, height, level, 1, bx, by, cur.len(), reference.len());
     if code != 0 {
         return Found::refuse(code);
     }
-    if !grid_ok(width, height, rows.len(), cols.len(), sads.len()) {
+    if !grid_ok(width, height, room(rows.len(), cols.len(), sads.len())) {
         return Found::refuse(5);
     }
     let b = block_at(width, height, level, 1, bx, by).weighed(weight);

@@ -56,7 +56,7 @@ pub(crate) fn single_search(
 ) -> Found
     ensures { λ r. ⌜ r ≡ searchAnswer method width height level bx by (now (cur .entry)) (now (reference .entry)) mv weight ⌝ }
 {
-    let code = call_refusal(width, height, level, 0, bx, by, cur, reference);
+    let code = call_refusal(width, height, level, 0, bx, by, cur.len(), reference.len());
     if code != 0 {
         return Found::refuse(code);
     }

@@ -4,7 +4,7 @@ use mathlib.Core.Bool.{cond}
 use mathlib.Core.List.{[]}
 use lib.Dec.{eqb}
 use Rattle.motion.specs.Vector.{zeroV}
-use Rattle.grid.specs.Grid.{Grid}
+use Rattle.grid.specs.Grid.{Grid, room}
 use Rattle.grid.specs.Previous.{previous}
 use Rattle.refusal.specs.Refusals.{refuse, _then_, blockRefusal, gridsHold}
 use Rattle.sampled.specs.Slots.{slotted}
@@ -15,7 +15,7 @@ use Rattle.single.specs.declared.predicting.Predictors.{Predictors}
 -- refusals 1 to 3, then 5
 unfoldable pub predictorsRefusal : (width height level bx by present : ℕ) (prev g : Grid) → ℕ
 predictorsRefusal width height level bx by present prev g =
-    blockRefusal width height level 0 bx by then refuse 5 (gridsHold width height present prev g)
+    blockRefusal width height level 0 bx by then refuse 5 (gridsHold width height present (room prev) (room g))
 
 -- a refusal holds 0 in each field
 unfoldable pub refusedPredictors : ℕ → Predictors

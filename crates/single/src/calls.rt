@@ -3,6 +3,7 @@ use crate::found::Found;
 use crate::predicting::Predictors;
 use crate::predicting::refused;
 use crate::range::Range;
+use grid::cells::room;
 use motion::rate::get_mv_rate;
 use motion::vector::MotionVector;
 use predict::predictors::get_subset_predictors;
@@ -70,7 +71,16 @@ pub extern "C" fn lockdapple_candidate(
 ) -> Found
     ensures { λ r. ⌜ r ≡ candidateAnswer width height level refined bx by (now (cur .entry)) (now (reference .entry)) (record { row = row; col = col }) weight ⌝ }
 {
-    let code = call_refusal(width, height, level, refined, bx, by, cur, reference);
+    let code = call_refusal(
+        width,
+        height,
+        level,
+        refined,
+        bx,
+        by,
+        cur.len(),
+        reference.len(),
+    );
     if code != 0 {
         return Found::refuse(code);
     }
@@ -100,17 +110,9 @@ pub extern "C" fn lockdapple_predictors(
     if code != 0 {
         return refused(code);
     }
-    if !grids_hold(
-        width,
-        height,
-        present,
-        prev_rows,
-        prev_cols,
-        prev_sads,
-        rows,
-        cols,
-        sads,
-    ) {
+    let prev_room = room(prev_rows.len(), prev_cols.len(), prev_sads.len());
+    let grid_room = room(rows.len(), cols.len(), sads.len());
+    if !grids_hold(width, height, present, prev_room, grid_room) {
         return refused(5);
     }
     let p = get_subset_predictors(

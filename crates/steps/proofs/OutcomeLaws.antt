@@ -5,7 +5,8 @@ use mathlib.Core.List.{List}
 use Prim.Native.Nat.{ℕ}
 use native.Mathlib.Omega.{arith}
 use borrow.Author.Tests.{eq-eqb, ne-eqb}
-use Rattle.grid.specs.Grid.{Grid}
+use lib.ListN.{length}
+use Rattle.grid.specs.Grid.{Grid, room}
 use Rattle.grid.specs.Previous.{previous}
 use Rattle.refusal.specs.Refusals.{refuse, _then_}
 use Rattle.refusal.proofs.RefusalLaws.{first-is}
@@ -24,17 +25,17 @@ module _ (width height level n : ℕ) (cur ref : List ℕ) (present : ℕ) (prev
   unfolding stepGrid
   step-stays e h = (e, rw (ne-eqb _ 0 (λ z. h (e ∙ z))))
 
-  pub step-refused : {code : ℕ} → code ≡ stepTests width height level n cur ref present prev g → (code ≡ 0 → ⊥) → StepAnswer code g
+  pub step-refused : {code : ℕ} → code ≡ stepTests width height level n (length cur) (length ref) present (room prev) (room g) → (code ≡ 0 → ⊥) → StepAnswer code g
   unfolding stepRefusal
   step-refused e h = step-stays (first-is _ e h) h
 
-  pub step-empty : {left : Grid} → stepTests width height level n cur ref present prev g ≡ 0 → windowsOk width height level n (g .rows) (g .cols) ≡ false → left ≡ step (inputsOf width height level cur ref weight) (previous present prev) n g → StepAnswer 8 left
+  pub step-empty : {left : Grid} → stepTests width height level n (length cur) (length ref) present (room prev) (room g) ≡ 0 → windowsOk width height level n (g .rows) (g .cols) ≡ false → left ≡ step (inputsOf width height level cur ref weight) (previous present prev) n g → StepAnswer 8 left
   unfolding stepRefusal refuse _then_ step
   step-empty tests empty e =
       let stays = step-stays {code = 8} (rw (tests, empty)) (λ z. absurd (omega arith)) in
       (stays .0, e ∙ rw empty (stays .1))
 
-  pub step-done : {left : Grid} → stepTests width height level n cur ref present prev g ≡ 0 → windowsOk width height level n (g .rows) (g .cols) ≡ true → left ≡ step (inputsOf width height level cur ref weight) (previous present prev) n g → StepAnswer 0 left
+  pub step-done : {left : Grid} → stepTests width height level n (length cur) (length ref) present (room prev) (room g) ≡ 0 → windowsOk width height level n (g .rows) (g .cols) ≡ true → left ≡ step (inputsOf width height level cur ref weight) (previous present prev) n g → StepAnswer 0 left
   unfolding stepRefusal refuse _then_ stepGrid
   step-done tests some e =
       let none : stepRefusal width height level n cur ref present prev g ≡ 0 = rw (tests, some) in

@@ -9,7 +9,7 @@ use lib.Dec.{ltb, eqb}
 use lib.ListN.{length}
 use Rattle.ground.proofs.TestLaws.{both, either}
 use Rattle.motion.specs.Superblock.{superblocks}
-use Rattle.grid.specs.Grid.{Grid}
+use Rattle.grid.specs.Grid.{Grid, room}
 use Rattle.refusal.specs.Refusals.{refuse, _then_, sideOk, levelOk, planesRefusal, gridsHold}
 use Rattle.refusal.proofs.RefusalLaws.{first-passed, passes, none-of, side-of, lent}
 use Rattle.refusal.proofs.GridsLaws.{GridsHeld, grids-held}
@@ -36,11 +36,11 @@ pub record StepReady (width height level n : ℕ) (cur ref : List ℕ) (present 
   pub inside : n < superblocks width height
   pub grids : GridsHeld width height present prev g
 
-pub step-ready : (width height level n : ℕ) (cur ref : List ℕ) (present : ℕ) (prev g : Grid) → stepTests width height level n cur ref present prev g ≡ 0 → StepReady width height level n cur ref present prev g
+pub step-ready : (width height level n : ℕ) (cur ref : List ℕ) (present : ℕ) (prev g : Grid) → stepTests width height level n (length cur) (length ref) present (room prev) (room g) ≡ 0 → StepReady width height level n cur ref present prev g
 unfolding stepTests
 step-ready width height level n cur ref present prev g e =
     let planes = planesRefusal width height level (length cur) (length ref) in
-    let grids = gridsHold width height present prev g in
+    let grids = gridsHold width height present (room prev) (room g) in
     let number = ltb n (superblocks width height) in
     let one = first-passed 0 (sideOk width && sideOk height) (refuse 2 (levelOk level 0) then refuse 3 number then planes then refuse 5 grids) e in
     let two = first-passed 1 (levelOk level 0) (refuse 3 number then planes then refuse 5 grids) (one .1) in

@@ -2,6 +2,7 @@ use crate::steps::plane_at;
 use crate::steps::step_tests;
 use estimate::step::Frame;
 use estimate::step::Step;
+use grid::cells::room;
 use superblock::step::superblock_step;
 ghost use mathlib.Core.Path.{_≡_};
 ghost use Rattle.grid.specs.Grid.{gridOf};
@@ -38,15 +39,11 @@ pub extern "C" fn lockdapple_superblock_step<'a>(
         height,
         level,
         superblock,
-        at_cur,
-        at_ref,
+        at_cur.len(),
+        at_ref.len(),
         present,
-        prev_rows,
-        prev_cols,
-        prev_sads,
-        &*rows,
-        &*cols,
-        &*sads,
+        room(prev_rows.len(), prev_cols.len(), prev_sads.len()),
+        room(rows.len(), cols.len(), sads.len()),
     );
     if code != 0 {
         return code;

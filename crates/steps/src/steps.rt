@@ -4,7 +4,6 @@ use refusal::refusals::level_ok;
 use refusal::refusals::planes_refusal;
 use refusal::refusals::side_ok;
 ghost use mathlib.Core.Path.{_≡_};
-ghost use Rattle.grid.specs.Grid.{gridOf};
 ghost use Rattle.estimate.specs.Inputs.{planesOf, planeAt};
 ghost use Rattle.steps.specs.Steps.{stepTests};
 
@@ -29,17 +28,13 @@ pub(crate) fn step_tests(
     height: usize,
     level: usize,
     superblock: usize,
-    cur: &[u8],
-    reference: &[u8],
+    cur: usize,
+    reference: usize,
     present: usize,
-    prev_rows: &[i16],
-    prev_cols: &[i16],
-    prev_sads: &[u32],
-    rows: &[i16],
-    cols: &[i16],
-    sads: &[u32],
+    prev_room: usize,
+    room: usize,
 ) -> u32
-    ensures { λ r. ⌜ r ≡ stepTests width height level superblock (now (cur .entry)) (now (reference .entry)) present (gridOf (now («prev_rows» .entry)) (now («prev_cols» .entry)) (now («prev_sads» .entry))) (gridOf (now (rows .entry)) (now (cols .entry)) (now (sads .entry))) ⌝ }
+    ensures { λ r. ⌜ r ≡ stepTests width height level superblock cur reference present «prev_room» room ⌝ }
 {
     if !side_ok(width) {
         return 1;
@@ -57,17 +52,7 @@ pub(crate) fn step_tests(
     if code != 0 {
         return code;
     }
-    if !grids_hold(
-        width,
-        height,
-        present,
-        prev_rows,
-        prev_cols,
-        prev_sads,
-        rows,
-        cols,
-        sads,
-    ) {
+    if !grids_hold(width, height, present, prev_room, room) {
         return 5;
     }
     0

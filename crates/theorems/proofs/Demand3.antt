@@ -6,9 +6,10 @@ use mathlib.Core.List.{List}
 use Prim.Native.Nat.{ℕ, _≤_, _<_}
 use borrow.Author.Tests.{eq-eqb, eqb-true}
 use lib.Dec.{eqb}
+use lib.ListN.{length}
 use Rattle.ground.proofs.TestLaws.{tested}
 use Rattle.motion.specs.Superblock.{superblocksAlong, superblocks}
-use Rattle.grid.specs.Grid.{Grid, cells, statsAt}
+use Rattle.grid.specs.Grid.{Grid, cells, room, statsAt}
 use Rattle.grid.specs.Previous.{previous}
 use Rattle.refusal.proofs.RefusalLaws.{none-of, then-later}
 use Rattle.estimate.specs.Inputs.{Planes, planeAt, inputsOf}
@@ -18,7 +19,7 @@ use Rattle.order.proofs.Accepted.{raster-taken}
 use Rattle.order.proofs.Pairs.{list-test}
 use Rattle.steps.specs.Steps.{stepTests, stepRefusal, stepGrid}
 use Rattle.steps.proofs.ReadyLaws.{step-ready}
-use Rattle.inter.specs.Runs.{runTests, runRefusal, runGrid}
+use Rattle.inter.specs.Runs.{lengthsOf, runTests, runRefusal, runGrid}
 use Rattle.inter.proofs.ReadyLaws.{run-ready}
 use Rattle.theorems.specs.Steps.{StepsLeave}
 use Rattle.theorems.specs.Demand3.{Holds}
@@ -36,7 +37,7 @@ module _ (width height : ℕ) (cur ref : Planes) (present : ℕ) (prev : Grid) (
   left list g = runGrid width height cur ref present prev weight list g
 
   abbrev tests : Grid → ℕ
-  tests g = runTests width height cur ref present prev g
+  tests g = runTests width height (lengthsOf cur) (lengthsOf ref) present (room prev) (room g)
 
   abbrev listed : List ℕ → ℕ
   listed list = listRefusal (superblocksAlong width) (superblocksAlong height) list
@@ -100,7 +101,7 @@ module _ (width height : ℕ) (cur ref : Planes) (present : ℕ) (prev : Grid) (
       where
         done : eqb number 0 ≡ true → statsAt (stepGrid width height level n (planeAt cur level) (planeAt ref level) present prev weight g) c ≡ statsAt g c
         done e =
-            let none = none-of (stepTests width height level n (planeAt cur level) (planeAt ref level) present prev g) _ (eqb-true number 0 e) in
+            let none = none-of (stepTests width height level n (length (planeAt cur level)) (length (planeAt ref level)) present (room prev) (room g)) _ (eqb-true number 0 e) in
             let ready = step-ready width height level n (planeAt cur level) (planeAt ref level) present prev g (none .0) in
             rw e (step-past (inputsOf width height level (planeAt cur level) (planeAt ref level) weight) (previous present prev) (ready .ready weight .wide) c past n g)
 

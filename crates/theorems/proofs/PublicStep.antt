@@ -1,18 +1,17 @@
 -- The public step, called at levels 4, 3, 2 for every superblock of an accepted list: every call answers 0, and the last leaves the
 -- grid that the run leaves. Assumes nothing.
 use mathlib.Core.Path.{_≡_, refl, sym, ap, subst, _∙_}
-use mathlib.Core.Bool.{Bool, true, _&&_, _||_}
+use mathlib.Core.Bool.{true, _&&_}
 use mathlib.Core.List.{List, [], _∷_, _++_, append-assoc}
-use Prim.Native.Nat.{ℕ, _<_, _^_}
+use Prim.Native.Nat.{ℕ, _<_, _^_, min}
 use native.Mathlib.Omega.{arith}
 use borrow.Author.Tests.{lt-ltb, eq-eqb}
-use lib.Dec.{eqb}
 use lib.ListN.{length, getD, length-append}
 use lib.Seq.{getD-append-seam}
 use Rattle.motion.specs.Superblock.{superblocksAlong, superblocks}
-use Rattle.grid.specs.Grid.{Grid}
+use Rattle.grid.specs.Grid.{Grid, room}
 use Rattle.grid.specs.Previous.{previous}
-use Rattle.refusal.specs.Refusals.{refuse, _then_, sideOk, levelOk, planesRefusal, gridOk, gridHolds, gridsHold}
+use Rattle.refusal.specs.Refusals.{refuse, _then_, sideOk, levelOk, planesRefusal, gridsHold}
 use Rattle.refusal.proofs.RefusalLaws.{first-passed, passes, none-of}
 use Rattle.estimate.specs.Inputs.{Inputs, Planes, planeAt}
 use Rattle.superblock.specs.Step.{windowsOk, step}
@@ -22,31 +21,30 @@ use Rattle.frame.proofs.RunLaws.{run-long}
 use Rattle.order.specs.List.{listRefusal}
 use Rattle.steps.specs.Steps.{stepTests, stepRefusal, stepGrid}
 use Rattle.steps.proofs.OutcomeLaws.{step-done}
-use Rattle.inter.specs.Runs.{lentRefusal, runTests, runRefusal, runGrid}
-use Rattle.inter.proofs.ReadyLaws.{list-inside}
+use Rattle.inter.specs.Runs.{lengthsOf, runTests, runRefusal, runGrid}
+use Rattle.inter.proofs.ReadyLaws.{lentRefusal, list-inside}
 use Rattle.theorems.specs.Steps.{Windowed, stepCalls, AllZero, StepsLeave}
 use Rattle.theorems.specs.Demand3.{OfSamples}
 use Rattle.theorems.proofs.NoEight.{never-eight}
 
 -- refusal 5 looks at lengths alone
-holds-long : (width height present : ℕ) (prev : Grid) {g now : Grid} → AsLong g now → gridsHold width height present prev g ≡ true → gridsHold width height present prev now ≡ true
-unfolding gridsHold gridHolds
+holds-long : (width height present : ℕ) (prev : Grid) {g now : Grid} → AsLong g now → gridsHold width height present (room prev) (room g) ≡ true → gridsHold width height present (room prev) (room now) ≡ true
+unfolding room
 holds-long width height present prev {g} {now} long e =
-    let same : gridOk width height (length (now .rows)) (length (now .cols)) (length (now .sads)) ≡ gridOk width height (length (g .rows)) (length (g .cols)) (length (g .sads)) = λ i. gridOk width height (long .rows i) (long .cols i) (long .sads i) in
-    ap (λ (t : Bool). t && (eqb present 0 || gridHolds width height prev)) same ∙ e
+    (λ i. gridsHold width height present (room prev) (min (long .rows i) (min (long .cols i) (long .sads i)))) ∙ e
 
 -- what a run's tests leave for the tests of its steps at a level
 pub record LevelTests (width height level : ℕ) (cur ref : List ℕ) (present : ℕ) (prev g : Grid) : Type 0 where
   pub sides : sideOk width && sideOk height ≡ true
   pub named : levelOk level 0 ≡ true
   pub planes : planesRefusal width height level (length cur) (length ref) ≡ 0
-  pub grids : gridsHold width height present prev g ≡ true
+  pub grids : gridsHold width height present (room prev) (room g) ≡ true
 
 module _ (width height level : ℕ) (cur ref : List ℕ) (present : ℕ) (prev : Grid) where
   tests-long : {g now : Grid} → AsLong g now → LevelTests width height level cur ref present prev g → LevelTests width height level cur ref present prev now
   tests-long long t = record { sides = t .sides; named = t .named; planes = t .planes; grids = holds-long width height present prev long (t .grids) }
 
-  step-passes : (g : Grid) → LevelTests width height level cur ref present prev g → (n : ℕ) → n < superblocks width height → stepTests width height level n cur ref present prev g ≡ 0
+  step-passes : (g : Grid) → LevelTests width height level cur ref present prev g → (n : ℕ) → n < superblocks width height → stepTests width height level n (length cur) (length ref) present (room prev) (room g) ≡ 0
   unfolding stepTests refuse _then_
   step-passes g t n h = rw (t .sides, t .named, lt-ltb n (superblocks width height) h, t .planes, t .grids)
 
@@ -88,15 +86,15 @@ module _ (width height level : ℕ) (cur ref : Planes) (present : ℕ) (prev : G
       ∙ call-is (levelRun inputs (previous present prev) front g) (before .1) n (inside front back n split) (windows front back n split) .0
 
 -- what a run's own tests say of each level
-module _ (width height : ℕ) (cur ref : Planes) (present : ℕ) (prev g : Grid) (e : runTests width height cur ref present prev g ≡ 0) where
+module _ (width height : ℕ) (cur ref : Planes) (present : ℕ) (prev g : Grid) (e : runTests width height (lengthsOf cur) (lengthsOf ref) present (room prev) (room g) ≡ 0) where
   abbrev At : ℕ → Type 0
   At level = LevelTests width height level (planeAt cur level) (planeAt ref level) present prev g
 
   levels-pass : At 4 × At 3 × At 2
-  unfolding runTests lentRefusal levelOk
+  unfolding runTests lengthsOf planeAt levelOk
   levels-pass =
       let lent : ℕ → ℕ = lentRefusal width height cur ref in
-      let grids = gridsHold width height present prev g in
+      let grids = gridsHold width height present (room prev) (room g) in
       let one = first-passed 0 (sideOk width && sideOk height) (lent 4 then lent 3 then lent 2 then refuse 5 grids) e in
       let quarter = none-of (lent 4) (lent 3 then lent 2 then refuse 5 grids) (one .1) in
       let half = none-of (lent 3) (lent 2 then refuse 5 grids) (quarter .1) in
@@ -117,7 +115,7 @@ standing-inside width height list ok front back n split =
 pub public-step : (width height : ℕ) (cur ref : Planes) (present : ℕ) (prev : Grid) (weight : ℕ) (list : List ℕ) (g : Grid) → OfSamples cur → OfSamples ref → weight < 2 ^ 32 → runRefusal width height cur ref present prev list g ≡ 0 → StepsLeave width height cur ref present prev weight list g (runGrid width height cur ref present prev weight list g)
 unfolding runRefusal runGrid frameRun
 public-step width height cur ref present prev weight list g hc hr hw done =
-    let none = none-of (runTests width height cur ref present prev g) (listRefusal (superblocksAlong width) (superblocksAlong height) list) done in
+    let none = none-of (runTests width height (lengthsOf cur) (lengthsOf ref) present (room prev) (room g)) (listRefusal (superblocksAlong width) (superblocksAlong height) list) done in
     let pass = levels-pass width height cur ref present prev g (none .0) in
     let inside = standing-inside width height list (none .1) in
     let windows = never-eight width height cur ref present prev weight list g hc hr hw done in

@@ -16,11 +16,11 @@ use Rattle.motion.specs.Range.{inRange}
 use Rattle.motion.specs.Frame.{Placed}
 use Rattle.motion.specs.Block.{weighed}
 use Rattle.grid.specs.declared.cells.MEStats.{MEStats}
-use Rattle.grid.specs.Grid.{Grid, Held, cellAt, statsAt, storedAt}
+use Rattle.grid.specs.Grid.{Grid, cellAt, statsAt, storedAt, room}
 use Rattle.grid.specs.Previous.{previous}
 use Rattle.grid.proofs.CellLaws.{cell-inside}
-use Rattle.refusal.specs.Refusals.{refuse, _then_, sizeOf, planeOk, blockRefusal, planesRefusal, callRefusal, gridOk, gridHolds, gridsHold}
-use Rattle.refusal.proofs.RefusalLaws.{none-of, accepted}
+use Rattle.refusal.specs.Refusals.{refuse, _then_, sizeOf, planeOk, blockRefusal, planesRefusal, callRefusal, gridOk, gridsHold}
+use Rattle.refusal.proofs.RefusalLaws.{none-of, accepted, holds}
 use Rattle.sad.specs.Cost.{rdAt}
 use Rattle.sad.proofs.Contained.{lies, weighed-lies}
 use Rattle.sad.proofs.CostLaws.{rd-same}
@@ -84,17 +84,13 @@ module _ (width height level : ℕ) {cur cur′ ref ref′ : List ℕ} (hc : Sam
       answer-same (ap (λ (n : ℕ). n then refuse 9 (inRange (blockAt width height level 0 bx by .range) v)) (call-same 0 bx by))
       (λ z. ap (λ (rd : CostOf). foundOf (searchBy method rd (record { mv = v; rd = rd v }) .mv) (searchBy method rd (record { mv = v; rd = rd v }) .rd)) (costs-same 0 bx by (none-of _ _ z .0) weight))
 
--- a grid that is long enough
-holds : {width height : ℕ} {g : Grid} → Held width height g → gridHolds width height g ≡ true
-unfolding gridHolds gridOk
-holds h = rw (le-leb _ _ (h .rows), le-leb _ _ (h .cols), le-leb _ _ (h .sads))
-
-pub grids-same : {width height present : ℕ} {prev before g h : Grid} → SamePrevious width height present prev before → SameInside width height g h → gridsHold width height present prev g ≡ gridsHold width height present before h
+-- the grids
+pub grids-same : {width height present : ℕ} {prev before g h : Grid} → SamePrevious width height present prev before → SameInside width height g h → gridsHold width height present (room prev) (room g) ≡ gridsHold width height present (room before) (room h)
 unfolding gridsHold
 grids-same {width} {height} {present} {prev} {before} {g} {h} hp e =
     ap₂ _&&_ (holds (e .one) ∙ sym (holds (e .other))) (by (tested (eqb present 0)))
   where
-    by : (eqb present 0 ≡ true) ⊎ (eqb present 0 ≡ false) → (eqb present 0 || gridHolds width height prev) ≡ (eqb present 0 || gridHolds width height before)
+    by : (eqb present 0 ≡ true) ⊎ (eqb present 0 ≡ false) → (eqb present 0 || gridOk width height (room prev)) ≡ (eqb present 0 || gridOk width height (room before))
     by (inl z) = rw z
     by (inr z) =
         let both = hp (eqb-false present 0 z) in
@@ -102,7 +98,7 @@ grids-same {width} {height} {present} {prev} {before} {g} {h} hp e =
 
 -- one refinement
 pub refine-same : (width height level bx by : ℕ) {cur cur′ ref ref′ : List ℕ} → SamePlane width height level cur cur′ → SamePlane width height level ref ref′ → (g h : Grid) → SameInside width height g h → (weight : ℕ) → refineAnswer width height level bx by cur ref (g .rows) (g .cols) (g .sads) weight ≡ refineAnswer width height level bx by cur′ ref′ (h .rows) (h .cols) (h .sads) weight
-unfolding refineAnswer windowAnswer gridHolds statsAt
+unfolding refineAnswer windowAnswer statsAt
 refine-same width height level bx by {cur} {cur′} {ref} {ref′} hc hr g h e weight =
     answer-same (λ i. call-same width height level hc hr 1 bx by i then refuse 5 (grid i))
     (λ z.
@@ -114,7 +110,7 @@ refine-same width height level bx by {cur} {cur′} {ref} {ref′} hc hr g h e w
     let rd = costs-same width height level hc hr 1 bx by call weight in
     λ i. answer (refuse 8 (windowOk (refineWindow (b .range) (stored i) s))) (foundOf (refine (rd i) (b .range) (stored i) s .mv) (refine (rd i) (b .range) (stored i) s .rd)))
   where
-    grid : gridOk width height (length (g .rows)) (length (g .cols)) (length (g .sads)) ≡ gridOk width height (length (h .rows)) (length (h .cols)) (length (h .sads))
+    grid : gridOk width height (room g) ≡ gridOk width height (room h)
     grid = holds {width = width} {height = height} {g = g} (e .one) ∙ sym (holds {width = width} {height = height} {g = h} (e .other))
 
 -- the cells of a previous grid that a block of the frame samples, where there are any

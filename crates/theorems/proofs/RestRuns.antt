@@ -15,7 +15,7 @@ use Rattle.motion.specs.Level.{levelOf}
 use Rattle.motion.specs.Block.{weighed, blockOf}
 use Rattle.motion.specs.Superblock.{superblocksAlong, superblocks}
 use Rattle.grid.specs.declared.cells.MEStats.{MEStats}
-use Rattle.grid.specs.Grid.{Grid}
+use Rattle.grid.specs.Grid.{Grid, room}
 use Rattle.grid.specs.Previous.{Previous, previous}
 use Rattle.grid.specs.Save.{saveBlock}
 use Rattle.refusal.specs.Refusals.{refuse, _then_, sideOk, levelOk}
@@ -26,7 +26,7 @@ use Rattle.sad.proofs.CostLaws.{rd-same}
 use Rattle.search.specs.Result.{CostOf}
 use Rattle.search.specs.Full.{refine}
 use Rattle.predict.specs.declared.predictors.MotionEstimationSubsets.{MotionEstimationSubsets}
-use Rattle.estimate.specs.Inputs.{Inputs, Planes, inputsOf}
+use Rattle.estimate.specs.Inputs.{Inputs, Planes, planeAt, inputsOf}
 use Rattle.estimate.specs.Asked.{Leveled, four, three, two}
 use Rattle.estimate.specs.Block.{blockIn, costIn, fullPixelMe, statsOf, estimateMotion, firstStored, refineMotion}
 use Rattle.estimate.proofs.BlockFacts.{own-sized, refined-sized}
@@ -37,8 +37,8 @@ use Rattle.frame.specs.Run.{levelRun, inputsAt, frameRun}
 use Rattle.order.specs.List.{listRefusal}
 use Rattle.steps.specs.Steps.{stepTests, stepRefusal, stepGrid}
 use Rattle.steps.proofs.ReadyLaws.{step-ready}
-use Rattle.inter.specs.Runs.{lentRefusal, runTests, runRefusal, runGrid}
-use Rattle.inter.proofs.ReadyLaws.{run-ready, list-inside}
+use Rattle.inter.specs.Runs.{lengthsOf, runTests, runRefusal, runGrid}
+use Rattle.inter.proofs.ReadyLaws.{lentRefusal, run-ready, list-inside}
 use Rattle.theorems.specs.Rest.{samples, SamePlane, SamePlanes, SameInside, SamePrevious}
 use Rattle.theorems.proofs.Inside.{windows-same, step-same, run-same}
 use Rattle.theorems.proofs.RestBlocks.{planes-same, grids-same, c-same}
@@ -125,9 +125,9 @@ module _ (width height level : ℕ) (wide : Side width) (high : Side height) (le
 -- the public step
 module _ (width height level n : ℕ) {cur cur′ ref ref′ : List ℕ} (hc : SamePlane width height level cur cur′) (hr : SamePlane width height level ref ref′) (present : ℕ) (prev before : Grid) (hp : SamePrevious width height present prev before) (weight : ℕ) (g h : Grid) (e : SameInside width height g h) where
   abbrev tests : ℕ
-  tests = stepTests width height level n cur ref present prev g
+  tests = stepTests width height level n (length cur) (length ref) present (room prev) (room g)
 
-  tests-same : tests ≡ stepTests width height level n cur′ ref′ present before h
+  tests-same : tests ≡ stepTests width height level n (length cur′) (length ref′) present (room before) (room h)
   unfolding stepTests
   tests-same =
       λ k. refuse 1 (sideOk width && sideOk height) then refuse 2 (levelOk level 0) then refuse 3 (ltb n (superblocks width height)) then planes-same width height level hc hr k then refuse 5 (grids-same hp e k)
@@ -168,18 +168,17 @@ module _ (width height : ℕ) (cur cur′ ref ref′ : Planes) (hc : SamePlanes 
   run-number = runRefusal width height cur ref present prev list g
 
   lent-same : (level : ℕ) → lentRefusal width height cur ref level ≡ lentRefusal width height cur′ ref′ level
-  unfolding lentRefusal
   lent-same level = planes-same width height level (hc level) (hr level)
 
   run-number-same : run-number ≡ runRefusal width height cur′ ref′ present before list h
-  unfolding runRefusal runTests
+  unfolding runRefusal runTests lengthsOf planeAt
   run-number-same =
       λ k. (refuse 1 (sideOk width && sideOk height) then lent-same 4 k then lent-same 3 k then lent-same 2 k then refuse 5 (grids-same hp e k)) then listRefusal (superblocksAlong width) (superblocksAlong height) list
 
   run-by : (t : Bool) → eqb run-number 0 ≡ t → SameInside width height (cond t (frameRun width height cur ref weight (previous present prev) list g) g) (cond t (frameRun width height cur′ ref′ weight (previous present before) list h) h)
   unfolding runRefusal frameRun inputsAt
   run-by true z =
-      let parts = none-of (runTests width height cur ref present prev g) (listRefusal (superblocksAlong width) (superblocksAlong height) list) (eqb-true run-number 0 z) in
+      let parts = none-of (runTests width height (lengthsOf cur) (lengthsOf ref) present (room prev) (room g)) (listRefusal (superblocksAlong width) (superblocksAlong height) list) (eqb-true run-number 0 z) in
       let ready = run-ready width height cur ref present prev g (parts .0) in
       let inside = list-inside width height list (parts .1) in
       let at4 = run-inside width height 4 (ready .wide) (ready .high) four (hc 4) (hr 4) present prev before hp weight list inside g h e in

@@ -6,13 +6,13 @@ use Prim.Native.Nat.{ℕ, _≤_, _<_, _^_}
 use lib.ListN.{getD}
 use Rattle.motion.specs.Limits.{largestSample}
 use Rattle.motion.specs.Superblock.{superblocksAlong, superblocks}
-use Rattle.grid.specs.Grid.{Grid, cells, statsAt}
+use Rattle.grid.specs.Grid.{Grid, cells, room, statsAt}
 use Rattle.grid.specs.Previous.{previous}
 use Rattle.estimate.specs.Inputs.{Planes, planeAt}
 use Rattle.order.specs.List.{raster}
 use Rattle.order.specs.Pairs.{NamesOnce, Against}
 use Rattle.steps.specs.Steps.{stepGrid}
-use Rattle.inter.specs.Runs.{runTests, runRefusal, runGrid}
+use Rattle.inter.specs.Runs.{lengthsOf, runTests, runRefusal, runGrid}
 use Rattle.theorems.specs.Steps.{RunWindowed, StepsLeave}
 
 -- of a run's frame, planes, previous grid and weight, for every list and every grid
@@ -22,13 +22,13 @@ pub record Demand3 (width height : ℕ) (cur ref : Planes) (present : ℕ) (prev
   -- whatever the grid held before
   pub whatever-before : (list : List ℕ) (g h : Grid) → runRefusal width height cur ref present prev list g ≡ 0 → runRefusal width height cur ref present prev list h ≡ 0 → (c : ℕ) → c < cells width height → statsAt (runGrid width height cur ref present prev weight list g) c ≡ statsAt (runGrid width height cur ref present prev weight list h) c
   -- a list that does not name each superblock once is refused with 6
-  pub six : (list : List ℕ) (g : Grid) → runTests width height cur ref present prev g ≡ 0 → (NamesOnce (superblocks width height) list → ⊥) → runRefusal width height cur ref present prev list g ≡ 6
+  pub six : (list : List ℕ) (g : Grid) → runTests width height (lengthsOf cur) (lengthsOf ref) present (room prev) (room g) ≡ 0 → (NamesOnce (superblocks width height) list → ⊥) → runRefusal width height cur ref present prev list g ≡ 6
   -- any other that has a pair sharing an edge against raster order, with 7
-  pub seven : (list : List ℕ) (g : Grid) → runTests width height cur ref present prev g ≡ 0 → NamesOnce (superblocks width height) list → Against (superblocksAlong width) list → runRefusal width height cur ref present prev list g ≡ 7
+  pub seven : (list : List ℕ) (g : Grid) → runTests width height (lengthsOf cur) (lengthsOf ref) present (room prev) (room g) ≡ 0 → NamesOnce (superblocks width height) list → Against (superblocksAlong width) list → runRefusal width height cur ref present prev list g ≡ 7
   -- every other list is accepted
-  pub accepted : (list : List ℕ) (g : Grid) → runTests width height cur ref present prev g ≡ 0 → NamesOnce (superblocks width height) list → (Against (superblocksAlong width) list → ⊥) → runRefusal width height cur ref present prev list g ≡ 0
+  pub accepted : (list : List ℕ) (g : Grid) → runTests width height (lengthsOf cur) (lengthsOf ref) present (room prev) (room g) ≡ 0 → NamesOnce (superblocks width height) list → (Against (superblocksAlong width) list → ⊥) → runRefusal width height cur ref present prev list g ≡ 0
   -- the raster list itself among them
-  pub raster-accepted : (g : Grid) → runTests width height cur ref present prev g ≡ 0 → runRefusal width height cur ref present prev (raster (superblocks width height)) g ≡ 0
+  pub raster-accepted : (g : Grid) → runTests width height (lengthsOf cur) (lengthsOf ref) present (room prev) (room g) ≡ 0 → runRefusal width height cur ref present prev (raster (superblocks width height)) g ≡ 0
   -- 8 can't occur in a run: no step of one that is not refused has an empty window
   pub never-eight : (list : List ℕ) (g : Grid) → runRefusal width height cur ref present prev list g ≡ 0 → RunWindowed width height cur ref weight (previous present prev) list g
   -- the public step, called at levels 4, 3, 2 in the order of an accepted list, is never refused and leaves the raster grid

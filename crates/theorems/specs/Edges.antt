@@ -10,14 +10,14 @@ use Rattle.motion.specs.Vector.{fullpel}
 use Rattle.motion.specs.Rate.{rate}
 use Rattle.motion.specs.Level.{levelOf}
 use Rattle.motion.specs.Block.{blockOf}
-use Rattle.grid.specs.Grid.{Grid}
+use Rattle.grid.specs.Grid.{Grid, room}
 use Rattle.search.specs.declared.result.MotionSearchResult.{MotionSearchResult}
 use Rattle.search.specs.Result.{CostOf, emptyResult}
 use Rattle.search.specs.Hexagon.{tryIndex, hexagonThree}
 use Rattle.predict.specs.Predictors.{leastOf, minimumSad}
 use Rattle.estimate.specs.Inputs.{Planes}
 use Rattle.estimate.specs.Block.{statsOf}
-use Rattle.inter.specs.Runs.{runTests, runRefusal}
+use Rattle.inter.specs.Runs.{lengthsOf, runTests, runRefusal}
 
 -- the columns that a block of level 4 at column bx of the cells searches, whatever the frame's height and the block's row
 abbrev pub Columns4 : (width bx : ℕ) (low high : ℤ) → Type 0
@@ -37,7 +37,7 @@ Tries i first second third =
 -- a run of 128 by 64, two superblocks side by side, which refusals 1, 4 and 5 let through, answers a list with this
 abbrev pub Answers : List ℕ → ℕ → Type 0
 Answers list number =
-    (cur ref : Planes) (present : ℕ) (prev g : Grid) → runTests 128 64 cur ref present prev g ≡ 0 → runRefusal 128 64 cur ref present prev list g ≡ number
+    (cur ref : Planes) (present : ℕ) (prev g : Grid) → runTests 128 64 (lengthsOf cur) (lengthsOf ref) present (room prev) (room g) ≡ 0 → runRefusal 128 64 cur ref present prev list g ≡ number
 
 pub record EdgeCases : Type 0 where
   -- E1 W=64, bx=0, level 4: columns −160..160

@@ -2,12 +2,13 @@
 -- Assumes nothing.
 use borrow.Author.Needs.{needs}
 use borrow.Author.Tests.{ne-eqb}
-use mathlib.Core.Path.{_≡_, refl, sym, _∙_}
-use Prim.Native.Nat.{_*_, _/_, _^_, _≤_}
+use mathlib.Core.Path.{_≡_, refl, sym, ap, _∙_}
+use Prim.Native.Nat.{ℕ, _*_, _/_, _^_, _≤_}
 use native.Mathlib.Omega.{arith}
+use lib.ListN.{length}
 use denote.Ref.{now}
 use Rattle.motion.specs.Limits.{cellSide}
-use Rattle.grid.specs.Grid.{Grid, gridOf, cells}
+use Rattle.grid.specs.Grid.{Grid, gridOf, cells, room}
 use Rattle.records.specs.Records.{fileBytes}
 use Rattle.gridfile.specs.Writing.{writeRefusal, writtenOf, writeAnswer, writtenFile}
 use Rattle.gridfile.proofs.WriteLaws.{cells-most, cells-even, Writes, writes, file-put}
@@ -21,8 +22,15 @@ start c = c .before .before .before .before .before
 abbrev grid : tie.Start → Grid
 grid s = gridOf (now (s .args .rows)) (now (s .args .cols)) (now (s .args .sads))
 
-none : (c : tie.Else1) → writeRefusal (start c .args .width) (start c .args .height) (grid (start c)) (now (start c .args .file)) ≡ 0
-none c = sym (c .before .write-refusal .ensures) ∙ c .if1 .left
+-- the tests were of the grid's room and of the lent bytes
+tested : (c : tie.After-write-refusal) → let s = c .before .before .before .before in c .write-refusal .result ≡ writeRefusal (s .args .width) (s .args .height) (room (grid s)) (length (now (s .args .file)))
+unfolding room
+tested c =
+    let a = c .before .before .before .before .args in
+    c .write-refusal .ensures ∙ ap (λ (n : ℕ). writeRefusal (a .width) (a .height) n (length (now (a .file)))) (c .before .room .ensures)
+
+none : (c : tie.Else1) → writeRefusal (start c .args .width) (start c .args .height) (room (grid (start c))) (length (now (start c .args .file))) ≡ 0
+none c = sym (tested (c .before)) ∙ c .if1 .left
 
 sound : (c : tie.Else1) → Writes (start c .args .width) (start c .args .height) (grid (start c)) (now (start c .args .file))
 sound c = writes _ _ _ _ (none c)
@@ -30,15 +38,15 @@ sound c = writes _ _ _ _ (none c)
 few : (c : tie.Else1) → (start c .args .width / cellSide) * (start c .args .height / cellSide) ≤ 2 ^ 16
 few c = cells-most (sound c .wide .most) (sound c .high .most)
 
+room-requires : tie.Need-room-requires
+room-requires c κs = search needs
+
 write-refusal-requires : tie.Need-write-refusal-requires
 write-refusal-requires c κs = search needs
 
-same-length : tie.Need-same-length
-same-length c = search needs
-
 returns : tie.Need-returns
 unfolding writeAnswer writtenOf writtenFile
-returns c = rw (← c .before .write-refusal .ensures, ne-eqb _ 0 (c .if1 .taken)) (refl, refl)
+returns c = rw (← tested (c .before), ne-eqb _ 0 (c .if1 .taken)) (refl, refl)
 
 mul-count : tie.Need-mul-count
 mul-count c = omega (arith, few c)
@@ -53,14 +61,14 @@ put-cells-requires c κs =
     let passed = c .before .before .before .before .before in
     omega (arith, sound passed, cells-even (start passed .args .height) (sound passed .wide))
 
-mul-t13 : tie.Need-mul-t13
-mul-t13 c = omega (arith, few (c .before .before .before .before .before .before .before .before))
+mul-t9 : tie.Need-mul-t9
+mul-t9 c = omega (arith, few (c .before .before .before .before .before .before .before .before))
 
-add-t12 : tie.Need-add-t12
-add-t12 c = omega (arith, few (c .before .before .before .before .before .before .before .before))
+add-t11 : tie.Need-add-t11
+add-t11 c = omega (arith, few (c .before .before .before .before .before .before .before .before))
 
-same-length-2 : tie.Need-same-length-2
-same-length-2 c = search needs
+same-length : tie.Need-same-length
+same-length c = search needs
 
 returns-2 : tie.Need-returns-2
 unfolding writeAnswer writtenOf writtenFile cells fileBytes
@@ -74,13 +82,13 @@ pub lockdapple-grid-write-spec : {M : Type 1} → statement M
 lockdapple-grid-write-spec =
     tie.close
     (tie.spec
+    room-requires
     write-refusal-requires
-    same-length
     returns
     mul-count
     put-header-requires
     put-cells-requires
-    mul-t13
-    add-t12
-    same-length-2
+    mul-t9
+    add-t11
+    same-length
     returns-2)

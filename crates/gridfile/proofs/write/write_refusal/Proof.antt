@@ -9,7 +9,7 @@ use native.Mathlib.Omega.{arith}
 use Rattle.ground.proofs.TestLaws.{passed, failed}
 use Rattle.motion.specs.Limits.{largestSide, cellSide}
 use Rattle.grid.specs.Grid.{cells}
-use Rattle.refusal.specs.Refusals.{refuse, _then_, sideOk, gridHolds}
+use Rattle.refusal.specs.Refusals.{refuse, _then_, sideOk}
 use Rattle.refusal.proofs.RefusalLaws.{side-of}
 use Rattle.records.specs.Records.{fileBytes}
 use Rattle.gridfile.specs.Writing.{writeRefusal}
@@ -19,7 +19,7 @@ use Rattle.gridfile.proofs.write.write_refusal.Tie as tie
 
 -- the arguments, where both sides passed
 abbrev start : tie.Else2 → tie.Start
-start c = c .before .before .before .before .before .before
+start c = c .before .before .before .before
 
 sides-passed : (c : tie.Else2) → sideOk (start c .args .width) && sideOk (start c .args .height) ≡ true
 sides-passed c =
@@ -56,7 +56,7 @@ grid-ok-requires : tie.Need-grid-ok-requires
 grid-ok-requires c κs = short c
 
 returns-3 : tie.Need-returns-3
-unfolding writeRefusal refuse _then_ gridHolds
+unfolding writeRefusal refuse _then_
 returns-3 c = rw (sides-passed (c .before .before), failed (c .before .grid-ok .ensures) (c .if3 .taken))
 
 mul-if4 : tie.Need-mul-if4
@@ -69,13 +69,13 @@ add-if4 : tie.Need-add-if4
 add-if4 c = omega (arith, few c)
 
 returns-4 : tie.Need-returns-4
-unfolding writeRefusal refuse _then_ gridHolds fileBytes cells
+unfolding writeRefusal refuse _then_ fileBytes cells
 returns-4 c =
     let grid = c .before in
     rw (sides-passed (grid .before .before), passed (grid .before .grid-ok .ensures) (grid .if3 .left), lt-leb _ _ (c .if4 .taken))
 
 returns-5 : tie.Need-returns-5
-unfolding writeRefusal refuse _then_ gridHolds fileBytes cells
+unfolding writeRefusal refuse _then_ fileBytes cells
 returns-5 c =
     let grid = c .before in
     rw (sides-passed (grid .before .before), passed (grid .before .grid-ok .ensures) (grid .if3 .left), le-leb _ _ (c .if4 .left))

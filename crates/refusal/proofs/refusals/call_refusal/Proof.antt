@@ -16,7 +16,7 @@ returns c = first-is _ (c .before .block-refusal .ensures) (c .if1 .taken)
 
 planes-refusal-requires : tie.Need-planes-refusal-requires
 planes-refusal-requires c κs =
-    let a = c .before .before .before .before .args in
+    let a = c .before .before .args in
     let ok = accepted (a .width) (a .height) (a .level) (a .refined) (a .bx) (a .by) (sym (c .before .block-refusal .ensures) ∙ c .if1 .left) in
     (ok .wide .most, ok .high .most)
 

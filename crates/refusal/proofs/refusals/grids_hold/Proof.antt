@@ -3,7 +3,7 @@
 use borrow.Author.Needs.{needs}
 use borrow.Author.Tests.{eq-eqb, ne-eqb}
 use Rattle.ground.proofs.TestLaws.{passed, failed}
-use Rattle.refusal.specs.Refusals.{gridHolds, gridsHold}
+use Rattle.refusal.specs.Refusals.{gridsHold}
 use Rattle.refusal.proofs.refusals.grids_hold.Statement.{statement}
 use Rattle.refusal.proofs.refusals.grids_hold.Tie as tie
 
@@ -11,11 +11,11 @@ grid-ok-requires : tie.Need-grid-ok-requires
 grid-ok-requires c κs = search needs
 
 returns : tie.Need-returns
-unfolding gridsHold gridHolds
+unfolding gridsHold
 returns c = rw (failed (c .before .grid-ok .ensures) (c .if1 .taken))
 
 returns-2 : tie.Need-returns-2
-unfolding gridsHold gridHolds
+unfolding gridsHold
 returns-2 c =
     let first = c .before in
     rw (passed (first .before .grid-ok .ensures) (first .if1 .left), eq-eqb _ 0 (c .if2 .taken))
@@ -24,7 +24,7 @@ grid-ok-requires-2 : tie.Need-grid-ok-requires-2
 grid-ok-requires-2 c κs = search needs
 
 returns-3 : tie.Need-returns-3
-unfolding gridsHold gridHolds
+unfolding gridsHold
 returns-3 c =
     let last = c .before in
     let first = last .before in

@@ -1,14 +1,16 @@
 -- `steps::calls::lockdapple_superblock_step` meets its contract: a step that refusals 1 to 5 do not refuse may be taken.
 -- Assumes nothing.
 use borrow.Author.Needs.{needs}
-use mathlib.Core.Path.{_≡_, sym, _∙_}
+use mathlib.Core.Path.{_≡_, sym, subst₂, _∙_}
 use mathlib.Core.List.{List}
 use Prim.Native.Nat.{ℕ}
+use lib.ListN.{length}
 use denote.Ref.{now}
 use Rattle.ground.proofs.TestLaws.{passed, failed}
-use Rattle.grid.specs.Grid.{Grid, gridOf}
+use Rattle.grid.specs.Grid.{Grid, gridOf, room}
 use Rattle.grid.specs.Previous.{previous}
 use Rattle.estimate.specs.Inputs.{inputsOf, planesOf, planeAt}
+use Rattle.estimate.specs.Asked.{Ready}
 use Rattle.superblock.specs.Step.{step}
 use Rattle.steps.specs.Steps.{stepTests}
 use Rattle.steps.proofs.ReadyLaws.{step-ready}
@@ -18,7 +20,7 @@ use Rattle.steps.proofs.calls.lockdapple_superblock_step.Tie as tie
 
 -- the arguments of a call that was tested: its two planes, the previous grid and the grid
 abbrev start : tie.After-step-tests → tie.Start
-start c = c .before .before .before .before .before .before .before .before .before .before .before .before .before .before
+start c = c .before .before .before .before .before .before .before .before .before .before .before .before .before
 
 abbrev cur : tie.After-step-tests → List ℕ
 cur c =
@@ -37,14 +39,16 @@ abbrev grid : tie.After-step-tests → Grid
 grid c = gridOf (now (start c .args .rows)) (now (start c .args .cols)) (now (start c .args .sads))
 
 -- the tests were of those
-tested : (c : tie.After-step-tests) → c .step-tests .result ≡ stepTests (start c .args .width) (start c .args .height) (start c .args .level) (start c .args .superblock) (cur c) (ref c) (start c .args .present) (prev c) (grid c)
+tested : (c : tie.After-step-tests) → c .step-tests .result ≡ stepTests (start c .args .width) (start c .args .height) (start c .args .level) (start c .args .superblock) (length (cur c)) (length (ref c)) (start c .args .present) (room (prev c)) (room (grid c))
+unfolding room
 tested c =
     let a = start c .args in
-    let at = c .before .before .before .before in
+    let rooms = c .before in
+    let at = rooms .before .before in
     c .step-tests .ensures
-    ∙ (λ i. stepTests (a .width) (a .height) (a .level) (a .superblock) (at .before .plane-at .ensures i) (at .plane-at2 .ensures i) (a .present) (prev c) (grid c))
+    ∙ (λ i. stepTests (a .width) (a .height) (a .level) (a .superblock) (length (at .before .plane-at .ensures i)) (length (at .plane-at2 .ensures i)) (a .present) (rooms .before .room .ensures i) (rooms .room2 .ensures i))
 
-none : (c : tie.Else1) → stepTests (start (c .before) .args .width) (start (c .before) .args .height) (start (c .before) .args .level) (start (c .before) .args .superblock) (cur (c .before)) (ref (c .before)) (start (c .before) .args .present) (prev (c .before)) (grid (c .before)) ≡ 0
+none : (c : tie.Else1) → stepTests (start (c .before) .args .width) (start (c .before) .args .height) (start (c .before) .args .level) (start (c .before) .args .superblock) (length (cur (c .before))) (length (ref (c .before))) (start (c .before) .args .present) (room (prev (c .before))) (room (grid (c .before))) ≡ 0
 none c = sym (tested (c .before)) ∙ c .if1 .left
 
 -- and so was the step
@@ -61,7 +65,7 @@ unfolding previous
 stepped c =
     let t = testing c in
     let a = start t .args in
-    let at = t .before .before .before .before in
+    let at = t .before .before .before in
     c .superblock-step .ensures .1
     ∙ (λ i. step (inputsOf (a .width) (a .height) (a .level) (at .before .plane-at .ensures i) (at .plane-at2 .ensures i) 0) (previous (a .present) (prev t)) (a .superblock) (grid t))
 
@@ -71,8 +75,31 @@ plane-at-requires c κs = search needs
 plane-at-requires-2 : tie.Need-plane-at-requires-2
 plane-at-requires-2 c κs = search needs
 
+room-requires : tie.Need-room-requires
+room-requires c κs = search needs
+
+room-requires-2 : tie.Need-room-requires-2
+room-requires-2 c κs = search needs
+
 step-tests-requires : tie.Need-step-tests-requires
 step-tests-requires c κs = search needs
+
+returns : tie.Need-returns
+returns c = step-refused _ _ _ _ _ _ _ _ _ _ (tested (c .before)) (c .if1 .taken)
+
+superblock-step-requires : tie.Need-superblock-step-requires
+unfolding previous
+superblock-step-requires c κs =
+    let first = c .before .before .before in
+    let a = start (first .before) .args in
+    let at = first .before .before .before .before in
+    let ok = step-ready _ _ _ _ _ _ _ _ _ (none first) in (
+      (
+        subst₂ (λ (l m : List ℕ). Ready (inputsOf (a .width) (a .height) (a .level) l m 0)) (sym (at .before .plane-at .ensures)) (sym (at .plane-at2 .ensures)) (ok .ready 0),
+        ok .inside,
+      ),
+      (ok .grids .before, ok .grids .held),
+    )
 
 same-length : tie.Need-same-length
 same-length c = search needs
@@ -83,15 +110,10 @@ same-length-2 c = search needs
 same-length-3 : tie.Need-same-length-3
 same-length-3 c = search needs
 
-returns : tie.Need-returns
-returns c = step-refused _ _ _ _ _ _ _ _ _ _ (tested (c .before)) (c .if1 .taken)
-
-superblock-step-requires : tie.Need-superblock-step-requires
-unfolding previous
-superblock-step-requires c κs =
-    let first = c .before .before .before in
-    let ok = step-ready _ _ _ _ _ _ _ _ _ (sym (first .before .step-tests .ensures) ∙ first .if1 .left) in
-    ((ok .ready 0, ok .inside), (ok .grids .before, ok .grids .held))
+returns-2 : tie.Need-returns-2
+returns-2 c =
+    let work = c .before .before .before .before .before in
+    step-empty _ _ _ _ _ _ _ _ _ _ (none (work .before .before .before .before)) (failed (work .superblock-step .ensures .0) (c .if2 .taken)) (stepped work)
 
 same-length-4 : tie.Need-same-length-4
 same-length-4 c = search needs
@@ -101,20 +123,6 @@ same-length-5 c = search needs
 
 same-length-6 : tie.Need-same-length-6
 same-length-6 c = search needs
-
-returns-2 : tie.Need-returns-2
-returns-2 c =
-    let work = c .before .before .before .before .before in
-    step-empty _ _ _ _ _ _ _ _ _ _ (none (work .before .before .before .before)) (failed (work .superblock-step .ensures .0) (c .if2 .taken)) (stepped work)
-
-same-length-7 : tie.Need-same-length-7
-same-length-7 c = search needs
-
-same-length-8 : tie.Need-same-length-8
-same-length-8 c = search needs
-
-same-length-9 : tie.Need-same-length-9
-same-length-9 c = search needs
 
 returns-3 : tie.Need-returns-3
 returns-3 c =
@@ -127,17 +135,16 @@ lockdapple-superblock-step-spec =
     (tie.spec
     plane-at-requires
     plane-at-requires-2
+    room-requires
+    room-requires-2
     step-tests-requires
+    returns
+    superblock-step-requires
     same-length
     same-length-2
     same-length-3
-    returns
-    superblock-step-requires
+    returns-2
     same-length-4
     same-length-5
     same-length-6
-    returns-2
-    same-length-7
-    same-length-8
-    same-length-9
     returns-3)

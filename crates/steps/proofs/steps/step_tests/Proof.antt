@@ -17,7 +17,7 @@ use Rattle.steps.proofs.steps.step_tests.Tie as tie
 
 -- the arguments, where both sides passed
 abbrev start : tie.Else2 → tie.Start
-start c = c .before .before .before .before .before .before .before .before
+start c = c .before .before .before .before
 
 sides : (c : tie.Else2) → sideOk (start c .args .width) && sideOk (start c .args .height) ≡ true
 sides c =
