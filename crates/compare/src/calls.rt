@@ -3,7 +3,7 @@ use crate::cells::next_differing;
 use grid::cells::room;
 use gridfile::read::Shape;
 ghost use mathlib.Core.Path.{_≡_};
-ghost use Rattle.grid.specs.Grid.{gridOf};
+ghost use Rattle.grid.specs.Lent.{entryGrid};
 ghost use Rattle.compare.specs.Answer.{compareRefusal, compareAnswer};
 
 // A number of document 02, how many places differ from a cell on, and the first of them.
@@ -52,7 +52,7 @@ pub extern "C" fn lockdapple_grids_compare(
     second_sads: &[u32],
     from: usize,
 ) -> Comparison
-    ensures { λ r. ⌜ r ≡ compareAnswer first (gridOf (now («first_rows» .entry)) (now («first_cols» .entry)) (now («first_sads» .entry))) second (gridOf (now («second_rows» .entry)) (now («second_cols» .entry)) (now («second_sads» .entry))) from ⌝ }
+    ensures { λ r. ⌜ r ≡ compareAnswer first (entryGrid «first_rows» «first_cols» «first_sads») second (entryGrid «second_rows» «second_cols» «second_sads») from ⌝ }
 {
     let first_room = room(first_rows.len(), first_cols.len(), first_sads.len());
     let second_room = room(second_rows.len(), second_cols.len(), second_sads.len());

@@ -3,7 +3,7 @@ use grid::cells::stats_at;
 ghost use mathlib.Core.Path.{_≡_};
 ghost use Prim.Native.Nat.{_≤_, _<_};
 ghost use lib.ListN.{length, getD};
-ghost use Rattle.grid.specs.Grid.{gridOf};
+ghost use Rattle.grid.specs.Lent.{entryGrid};
 ghost use Rattle.compare.specs.Differ.{sameCell, differsAt, differing};
 
 fn same_cell(a: MEStats, b: MEStats) -> bool
@@ -24,7 +24,7 @@ pub fn differs_at(
 ) -> bool
     requires { ⌜ (i < length (now «first_rows»)) × (i < length (now «first_cols»)) × (i < length (now «first_sads»)) ⌝ }
     requires { ⌜ (i < length (now «second_rows»)) × (i < length (now «second_cols»)) × (i < length (now «second_sads»)) ⌝ }
-    ensures { λ r. ⌜ r ≡ differsAt (gridOf (now («first_rows» .entry)) (now («first_cols» .entry)) (now («first_sads» .entry))) (gridOf (now («second_rows» .entry)) (now («second_cols» .entry)) (now («second_sads» .entry))) i ⌝ }
+    ensures { λ r. ⌜ r ≡ differsAt (entryGrid «first_rows» «first_cols» «first_sads») (entryGrid «second_rows» «second_cols» «second_sads») i ⌝ }
 {
     let a = stats_at(first_rows, first_cols, first_sads, i);
     let b = stats_at(second_rows, second_cols, second_sads, i);
@@ -44,7 +44,7 @@ pub fn count_differing(
 ) -> usize
     requires { ⌜ (to ≤ length (now «first_rows»)) × (to ≤ length (now «first_cols»)) × (to ≤ length (now «first_sads»)) ⌝ }
     requires { ⌜ (to ≤ length (now «second_rows»)) × (to ≤ length (now «second_cols»)) × (to ≤ length (now «second_sads»)) ⌝ }
-    ensures { λ r. ⌜ r ≡ length (differing (gridOf (now («first_rows» .entry)) (now («first_cols» .entry)) (now («first_sads» .entry))) (gridOf (now («second_rows» .entry)) (now («second_cols» .entry)) (now («second_sads» .entry))) from to) ⌝ }
+    ensures { λ r. ⌜ r ≡ length (differing (entryGrid «first_rows» «first_cols» «first_sads») (entryGrid «second_rows» «second_cols» «second_sads») from to) ⌝ }
 {
     let mut count = 0;
     let mut i = from;
@@ -78,7 +78,7 @@ pub fn next_differing(
 ) -> usize
     requires { ⌜ (to ≤ length (now «first_rows»)) × (to ≤ length (now «first_cols»)) × (to ≤ length (now «first_sads»)) ⌝ }
     requires { ⌜ (to ≤ length (now «second_rows»)) × (to ≤ length (now «second_cols»)) × (to ≤ length (now «second_sads»)) ⌝ }
-    ensures { λ r. ⌜ r ≡ getD (differing (gridOf (now («first_rows» .entry)) (now («first_cols» .entry)) (now («first_sads» .entry))) (gridOf (now («second_rows» .entry)) (now («second_cols» .entry)) (now («second_sads» .entry))) from to) 0 to ⌝ }
+    ensures { λ r. ⌜ r ≡ getD (differing (entryGrid «first_rows» «first_cols» «first_sads») (entryGrid «second_rows» «second_cols» «second_sads») from to) 0 to ⌝ }
 {
     let mut i = from;
     while i < to {

@@ -2,6 +2,8 @@
 use mathlib.Core.Bool.{cond}
 use mathlib.Core.List.{List}
 use Prim.Native.Nat.{ℕ}
+use denote.Ref.{RefT, now}
+use denote.Triple.Both.{Both}
 use lib.Dec.{eqb}
 use Rattle.grid.specs.Grid.{Grid}
 use Rattle.grid.specs.Previous.{Previous, previousOf}
@@ -35,6 +37,13 @@ pub record Planes : Type 0 where
 
 abbrev pub planesOf : List ℕ → List ℕ → List ℕ → Planes
 planesOf full half quarter = record { full = full; half = half; quarter = quarter }
+
+-- what three lent planes hold, and the same at the call
+abbrev pub lentPlanes : RefT (List ℕ) → RefT (List ℕ) → RefT (List ℕ) → Planes
+lentPlanes full half quarter = planesOf (now full) (now half) (now quarter)
+
+abbrev pub entryPlanes : {A B C : Type 0} → Both (RefT (List ℕ)) A → Both (RefT (List ℕ)) B → Both (RefT (List ℕ)) C → Planes
+entryPlanes full half quarter = lentPlanes (full .entry) (half .entry) (quarter .entry)
 
 -- the plane of a level
 unfoldable pub planeAt : Planes → ℕ → List ℕ

@@ -23,7 +23,8 @@ ghost use Rattle.motion.specs.Vector.{zeroV, FitsV, shlV};
 ghost use Rattle.motion.specs.Range.{inRange};
 ghost use Rattle.motion.specs.Level.{levelOf};
 ghost use Rattle.motion.specs.Frame.{Side, Starts};
-ghost use Rattle.grid.specs.Grid.{Held, cells, cellAt, gridOf};
+ghost use Rattle.grid.specs.Grid.{Held, cells, cellAt};
+ghost use Rattle.grid.specs.Lent.{lentGrid, entryGrid};
 ghost use Rattle.grid.specs.Previous.{HeldIf};
 ghost use Rattle.sad.specs.Asked.{Lies};
 ghost use Rattle.sad.specs.Cost.{rdAt};
@@ -186,10 +187,10 @@ pub fn estimate_motion(
     sads: &[u32],
 ) -> MEStats
     requires { ⌜ Ready (inputsIn (s .frame) (s .level) (now cur) (now reference)) ⌝ }
-    requires { ⌜ HeldIf (s .frame .width) (s .frame .height) (previousIn (s .frame) (gridOf (now «prev_rows») (now «prev_cols») (now «prev_sads»))) ⌝ }
+    requires { ⌜ HeldIf (s .frame .width) (s .frame .height) (previousIn (s .frame) (lentGrid «prev_rows» «prev_cols» «prev_sads»)) ⌝ }
     requires { ⌜ Starts (s .frame .width) (levelOf (s .level) .«mv_size») bx × Starts (s .frame .height) (levelOf (s .level) .«mv_size») by ⌝ }
-    requires { ⌜ Held (s .frame .width) (s .frame .height) (gridOf (now rows) (now cols) (now sads)) ⌝ }
-    ensures { λ r. ⌜ r ≡ estimateMotion (inputsIn (s .frame) (s .level) (now (cur .entry)) (now (reference .entry))) (previousIn (s .frame) (gridOf (now («prev_rows» .entry)) (now («prev_cols» .entry)) (now («prev_sads» .entry)))) bx by (gridOf (now (rows .entry)) (now (cols .entry)) (now (sads .entry))) ⌝ }
+    requires { ⌜ Held (s .frame .width) (s .frame .height) (lentGrid rows cols sads) ⌝ }
+    ensures { λ r. ⌜ r ≡ estimateMotion (inputsIn (s .frame) (s .level) (now (cur .entry)) (now (reference .entry))) (previousIn (s .frame) (entryGrid «prev_rows» «prev_cols» «prev_sads»)) bx by (entryGrid rows cols sads) ⌝ }
 {
     let width = s.frame.width;
     let height = s.frame.height;

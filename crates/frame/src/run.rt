@@ -6,9 +6,10 @@ ghost use Prim.Native.Nat.{ℕ, _<_};
 ghost use lib.ListN.{length, getD};
 ghost use Rattle.motion.specs.Frame.{Side};
 ghost use Rattle.motion.specs.Superblock.{superblocks};
-ghost use Rattle.grid.specs.Grid.{Held, gridOf};
+ghost use Rattle.grid.specs.Grid.{Held};
+ghost use Rattle.grid.specs.Lent.{lentGrid, entryGrid, exitGrid};
 ghost use Rattle.grid.specs.Previous.{HeldIf};
-ghost use Rattle.estimate.specs.Inputs.{inputsIn, previousIn, planesOf};
+ghost use Rattle.estimate.specs.Inputs.{inputsIn, previousIn, entryPlanes};
 ghost use Rattle.estimate.specs.Asked.{Ready, PlaneHeld};
 ghost use Rattle.frame.specs.Run.{levelRun, frameRun};
 
@@ -27,10 +28,10 @@ fn level_run(
     sads: &mut [u32],
 )
     requires { ⌜ Ready (inputsIn frame level (now cur) (now reference)) ⌝ }
-    requires { ⌜ HeldIf (frame .width) (frame .height) (previousIn frame (gridOf (now «prev_rows») (now «prev_cols») (now «prev_sads»))) ⌝ }
-    requires { ⌜ Held (frame .width) (frame .height) (gridOf (now rows) (now cols) (now sads)) ⌝ }
+    requires { ⌜ HeldIf (frame .width) (frame .height) (previousIn frame (lentGrid «prev_rows» «prev_cols» «prev_sads»)) ⌝ }
+    requires { ⌜ Held (frame .width) (frame .height) (lentGrid rows cols sads) ⌝ }
     requires { ⌜ ((k : ℕ) → k < length (now list) → getD (now list) k 0 < superblocks (frame .width) (frame .height)) ⌝ }
-    ensures { λ r. ⌜ gridOf (now (rows .exit)) (now (cols .exit)) (now (sads .exit)) ≡ levelRun (inputsIn frame level (now (cur .entry)) (now (reference .entry))) (previousIn frame (gridOf (now («prev_rows» .entry)) (now («prev_cols» .entry)) (now («prev_sads» .entry)))) (now (list .entry)) (gridOf (now (rows .entry)) (now (cols .entry)) (now (sads .entry))) ⌝ }
+    ensures { λ r. ⌜ exitGrid rows cols sads ≡ levelRun (inputsIn frame level (now (cur .entry)) (now (reference .entry))) (previousIn frame (entryGrid «prev_rows» «prev_cols» «prev_sads»)) (now (list .entry)) (entryGrid rows cols sads) ⌝ }
 {
     let mut k = 0;
     while k < list.len() {
@@ -74,10 +75,10 @@ pub fn frame_run(
 )
     requires { ⌜ Side (frame .width) × Side (frame .height) × PlaneHeld (frame .width) (frame .height) 2 (now cur) × PlaneHeld (frame .width) (frame .height) 3 (now «cur_half») × PlaneHeld (frame .width) (frame .height) 4 (now «cur_quarter») ⌝ }
     requires { ⌜ PlaneHeld (frame .width) (frame .height) 2 (now reference) × PlaneHeld (frame .width) (frame .height) 3 (now «ref_half») × PlaneHeld (frame .width) (frame .height) 4 (now «ref_quarter») ⌝ }
-    requires { ⌜ HeldIf (frame .width) (frame .height) (previousIn frame (gridOf (now «prev_rows») (now «prev_cols») (now «prev_sads»))) ⌝ }
-    requires { ⌜ Held (frame .width) (frame .height) (gridOf (now rows) (now cols) (now sads)) ⌝ }
+    requires { ⌜ HeldIf (frame .width) (frame .height) (previousIn frame (lentGrid «prev_rows» «prev_cols» «prev_sads»)) ⌝ }
+    requires { ⌜ Held (frame .width) (frame .height) (lentGrid rows cols sads) ⌝ }
     requires { ⌜ ((k : ℕ) → k < length (now list) → getD (now list) k 0 < superblocks (frame .width) (frame .height)) ⌝ }
-    ensures { λ r. ⌜ gridOf (now (rows .exit)) (now (cols .exit)) (now (sads .exit)) ≡ frameRun (frame .width) (frame .height) (planesOf (now (cur .entry)) (now («cur_half» .entry)) (now («cur_quarter» .entry))) (planesOf (now (reference .entry)) (now («ref_half» .entry)) (now («ref_quarter» .entry))) (frame .weight) (previousIn frame (gridOf (now («prev_rows» .entry)) (now («prev_cols» .entry)) (now («prev_sads» .entry)))) (now (list .entry)) (gridOf (now (rows .entry)) (now (cols .entry)) (now (sads .entry))) ⌝ }
+    ensures { λ r. ⌜ exitGrid rows cols sads ≡ frameRun (frame .width) (frame .height) (entryPlanes cur «cur_half» «cur_quarter») (entryPlanes reference «ref_half» «ref_quarter») (frame .weight) (previousIn frame (entryGrid «prev_rows» «prev_cols» «prev_sads»)) (now (list .entry)) (entryGrid rows cols sads) ⌝ }
 {
     level_run(
         frame,

@@ -3,7 +3,8 @@ ghost use mathlib.Core.Path.{_≡_};
 ghost use Prim.Native.Nat.{_≤_, _<_, min};
 ghost use lib.ListN.{length};
 ghost use Rattle.motion.specs.Limits.{largestSide};
-ghost use Rattle.grid.specs.Grid.{gridOf, cellAt, storedAt, statsAt, withCell};
+ghost use Rattle.grid.specs.Grid.{cellAt, storedAt, statsAt, withCell};
+ghost use Rattle.grid.specs.Lent.{entryGrid, exitGrid};
 
 // What a cell of the grid holds.
 pub struct MEStats {
@@ -33,7 +34,7 @@ pub fn stored_at(rows: &[i16], cols: &[i16], i: usize) -> MotionVector
 // All that a cell holds.
 pub fn stats_at(rows: &[i16], cols: &[i16], sads: &[u32], i: usize) -> MEStats
     requires { ⌜ (i < length (now rows)) × (i < length (now cols)) × (i < length (now sads)) ⌝ }
-    ensures { λ r. ⌜ r ≡ statsAt (gridOf (now (rows .entry)) (now (cols .entry)) (now (sads .entry))) i ⌝ }
+    ensures { λ r. ⌜ r ≡ statsAt (entryGrid rows cols sads) i ⌝ }
 {
     let mv = stored_at(rows, cols, i);
     MEStats {
@@ -45,7 +46,7 @@ pub fn stats_at(rows: &[i16], cols: &[i16], sads: &[u32], i: usize) -> MEStats
 // One result in one cell.
 pub fn save_cell(i: usize, stats: MEStats, rows: &mut [i16], cols: &mut [i16], sads: &mut [u32])
     requires { ⌜ (i < length (now rows)) × (i < length (now cols)) × (i < length (now sads)) ⌝ }
-    ensures { λ r. ⌜ gridOf (now (rows .exit)) (now (cols .exit)) (now (sads .exit)) ≡ withCell i stats (gridOf (now (rows .entry)) (now (cols .entry)) (now (sads .entry))) ⌝ }
+    ensures { λ r. ⌜ exitGrid rows cols sads ≡ withCell i stats (entryGrid rows cols sads) ⌝ }
 {
     let row = stats.mv.row;
     let col = stats.mv.col;

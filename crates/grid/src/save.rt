@@ -5,7 +5,8 @@ ghost use mathlib.Core.Path.{_≡_};
 ghost use Prim.Native.Nat.{_+_, _/_, _≤_, _<_, min};
 ghost use lib.ListN.{length, set};
 ghost use Rattle.motion.specs.Limits.{largestSide, cellSide};
-ghost use Rattle.grid.specs.Grid.{Held, gridOf};
+ghost use Rattle.grid.specs.Grid.{Held};
+ghost use Rattle.grid.specs.Lent.{lentGrid, entryGrid, exitGrid};
 ghost use Rattle.grid.specs.Save.{upTo, saveWhere, saveBlock};
 
 // Four cells of one buffer, one after the other, which the compiler makes one store.
@@ -40,7 +41,7 @@ fn save_rest(
 )
     requires { ⌜ («from» ≤ to) × (to ≤ «from» + 3) ⌝ }
     requires { ⌜ (to ≤ length (now rows)) × (to ≤ length (now cols)) × (to ≤ length (now sads)) ⌝ }
-    ensures { λ r. ⌜ gridOf (now (rows .exit)) (now (cols .exit)) (now (sads .exit)) ≡ saveWhere (upTo «from» to) stats (gridOf (now (rows .entry)) (now (cols .entry)) (now (sads .entry))) ⌝ }
+    ensures { λ r. ⌜ exitGrid rows cols sads ≡ saveWhere (upTo «from» to) stats (entryGrid rows cols sads) ⌝ }
 {
     if from == to {
         return;
@@ -66,7 +67,7 @@ fn save_row(
     sads: &mut [u32],
 )
     requires { ⌜ («from» ≤ to) × (to ≤ length (now rows)) × (to ≤ length (now cols)) × (to ≤ length (now sads)) ⌝ }
-    ensures { λ r. ⌜ gridOf (now (rows .exit)) (now (cols .exit)) (now (sads .exit)) ≡ saveWhere (upTo «from» to) stats (gridOf (now (rows .entry)) (now (cols .entry)) (now (sads .entry))) ⌝ }
+    ensures { λ r. ⌜ exitGrid rows cols sads ≡ saveWhere (upTo «from» to) stats (entryGrid rows cols sads) ⌝ }
 {
     let mut i = from;
     while 4 <= to - i {
@@ -100,8 +101,8 @@ pub fn save_me_stats(
     sads: &mut [u32],
 )
     requires { ⌜ (width ≤ largestSide) × (height ≤ largestSide) × («mv_size» ≤ largestSide) × (bx < width / cellSide) × (by < height / cellSide) ⌝ }
-    requires { ⌜ Held width height (gridOf (now rows) (now cols) (now sads)) ⌝ }
-    ensures { λ r. ⌜ gridOf (now (rows .exit)) (now (cols .exit)) (now (sads .exit)) ≡ saveBlock width height «mv_size» bx by stats (gridOf (now (rows .entry)) (now (cols .entry)) (now (sads .entry))) ⌝ }
+    requires { ⌜ Held width height (lentGrid rows cols sads) ⌝ }
+    ensures { λ r. ⌜ exitGrid rows cols sads ≡ saveBlock width height «mv_size» bx by stats (entryGrid rows cols sads) ⌝ }
 {
     let x_end = block_end(width, mv_size, bx);
     let y_end = block_end(height, mv_size, by);

@@ -8,7 +8,7 @@ use crate::write::write_refusal;
 use grid::cells::room;
 use records::parts::put_header;
 ghost use mathlib.Core.Path.{_≡_};
-ghost use Rattle.grid.specs.Grid.{gridOf};
+ghost use Rattle.grid.specs.Lent.{entryGrid, exitGrid};
 ghost use Rattle.gridfile.specs.Writing.{writeAnswer, writtenFile};
 ghost use Rattle.gridfile.specs.Reading.{readAnswer, readGrid};
 
@@ -21,8 +21,8 @@ pub extern "C" fn lockdapple_grid_write(
     sads: &[u32],
     file: &mut [u8],
 ) -> Written
-    ensures { λ r. ⌜ r ≡ writeAnswer width height (gridOf (now (rows .entry)) (now (cols .entry)) (now (sads .entry))) (now (file .entry)) ⌝ }
-    ensures { λ r. ⌜ now (file .exit) ≡ writtenFile width height (gridOf (now (rows .entry)) (now (cols .entry)) (now (sads .entry))) (now (file .entry)) ⌝ }
+    ensures { λ r. ⌜ r ≡ writeAnswer width height (entryGrid rows cols sads) (now (file .entry)) ⌝ }
+    ensures { λ r. ⌜ now (file .exit) ≡ writtenFile width height (entryGrid rows cols sads) (now (file .entry)) ⌝ }
 {
     let code = write_refusal(
         width,
@@ -49,8 +49,8 @@ pub extern "C" fn lockdapple_grid_read(
     cols: &mut [i16],
     sads: &mut [u32],
 ) -> Shape
-    ensures { λ r. ⌜ r ≡ readAnswer (now (file .entry)) (gridOf (now (rows .entry)) (now (cols .entry)) (now (sads .entry))) ⌝ }
-    ensures { λ r. ⌜ gridOf (now (rows .exit)) (now (cols .exit)) (now (sads .exit)) ≡ readGrid (now (file .entry)) (gridOf (now (rows .entry)) (now (cols .entry)) (now (sads .entry))) ⌝ }
+    ensures { λ r. ⌜ r ≡ readAnswer (now (file .entry)) (entryGrid rows cols sads) ⌝ }
+    ensures { λ r. ⌜ exitGrid rows cols sads ≡ readGrid (now (file .entry)) (entryGrid rows cols sads) ⌝ }
 {
     let code = header_refusal(file, room(rows.len(), cols.len(), sads.len()));
     if code != 0 {

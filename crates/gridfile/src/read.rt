@@ -7,7 +7,7 @@ ghost use Prim.Native.Nat.{_+_, _*_, _≤_, _<_};
 ghost use lib.ListN.{length, getD, take, drop};
 ghost use lib.Dec.{ltb};
 ghost use Rattle.ground.specs.Every.{allBelow};
-ghost use Rattle.grid.specs.Grid.{gridOf};
+ghost use Rattle.grid.specs.Lent.{entryGrid, exitGrid};
 ghost use Rattle.refusal.specs.Refusals.{refuse, _then_};
 ghost use Rattle.records.specs.Records.{headerBytes, fileBytes};
 ghost use Rattle.gridfile.specs.Reading.{marked, between, start, taken, kept, ended};
@@ -116,7 +116,7 @@ pub(crate) fn get_cells(
 )
     requires { ⌜ (headerBytes ≤ length (now file)) × (0 < columns) × (columns ≤ 256) × (down ≤ 256) × (ended (taken 0 (between columns down 0) (drop headerBytes (now file))) ≡ 0) ⌝ }
     requires { ⌜ (columns * down ≤ length (now rows)) × (columns * down ≤ length (now cols)) × (columns * down ≤ length (now sads)) ⌝ }
-    ensures { λ r. ⌜ gridOf (now (rows .exit)) (now (cols .exit)) (now (sads .exit)) ≡ kept 0 (between columns down 0) (drop headerBytes (now (file .entry))) (gridOf (now (rows .entry)) (now (cols .entry)) (now (sads .entry))) ⌝ }
+    ensures { λ r. ⌜ exitGrid rows cols sads ≡ kept 0 (between columns down 0) (drop headerBytes (now (file .entry))) (entryGrid rows cols sads) ⌝ }
 {
     let count = columns * down;
     let mut i = 0;

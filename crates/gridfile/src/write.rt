@@ -6,7 +6,7 @@ ghost use mathlib.Core.Path.{_≡_};
 ghost use Prim.Native.Nat.{_%_, _≤_};
 ghost use lib.ListN.{length};
 ghost use lib.Seq.{sets};
-ghost use Rattle.grid.specs.Grid.{gridOf};
+ghost use Rattle.grid.specs.Lent.{entryGrid};
 ghost use Rattle.records.specs.Records.{headerBytes, fileBytes};
 ghost use Rattle.gridfile.specs.Writing.{cellRecords, writeRefusal};
 
@@ -39,7 +39,7 @@ pub(crate) fn write_refusal(width: usize, height: usize, room: usize, bytes: usi
 // The records of the first `count` cells, behind the header, two a turn.
 pub(crate) fn put_cells(count: usize, rows: &[i16], cols: &[i16], sads: &[u32], file: &mut [u8])
     requires { ⌜ (count ≤ length (now rows)) × (count ≤ length (now cols)) × (count ≤ length (now sads)) × (fileBytes count ≤ length (now file)) × (count % 2 ≡ 0) ⌝ }
-    ensures { λ r. ⌜ now (file .exit) ≡ sets (now (file .entry)) headerBytes (cellRecords (gridOf (now (rows .entry)) (now (cols .entry)) (now (sads .entry))) 0 count) ⌝ }
+    ensures { λ r. ⌜ now (file .exit) ≡ sets (now (file .entry)) headerBytes (cellRecords (entryGrid rows cols sads) 0 count) ⌝ }
 {
     let mut i = 0;
     while i < count {

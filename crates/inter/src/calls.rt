@@ -6,8 +6,8 @@ use grid::cells::room;
 use motion::superblock::superblocks_along;
 use order::list::list_refusal;
 ghost use mathlib.Core.Path.{_≡_};
-ghost use Rattle.grid.specs.Grid.{gridOf};
-ghost use Rattle.estimate.specs.Inputs.{planesOf};
+ghost use Rattle.grid.specs.Lent.{entryGrid, exitGrid};
+ghost use Rattle.estimate.specs.Inputs.{entryPlanes};
 ghost use Rattle.inter.specs.Runs.{runRefusal, runGrid};
 
 #[no_mangle]
@@ -29,8 +29,8 @@ pub extern "C" fn lockdapple_frame_run(
     cols: &mut [i16],
     sads: &mut [u32],
 ) -> u32
-    ensures { λ r. ⌜ r ≡ runRefusal width height (planesOf (now (cur .entry)) (now («cur_half» .entry)) (now («cur_quarter» .entry))) (planesOf (now (reference .entry)) (now («ref_half» .entry)) (now («ref_quarter» .entry))) present (gridOf (now («prev_rows» .entry)) (now («prev_cols» .entry)) (now («prev_sads» .entry))) (now (list .entry)) (gridOf (now (rows .entry)) (now (cols .entry)) (now (sads .entry))) ⌝ }
-    ensures { λ r. ⌜ gridOf (now (rows .exit)) (now (cols .exit)) (now (sads .exit)) ≡ runGrid width height (planesOf (now (cur .entry)) (now («cur_half» .entry)) (now («cur_quarter» .entry))) (planesOf (now (reference .entry)) (now («ref_half» .entry)) (now («ref_quarter» .entry))) present (gridOf (now («prev_rows» .entry)) (now («prev_cols» .entry)) (now («prev_sads» .entry))) 0 (now (list .entry)) (gridOf (now (rows .entry)) (now (cols .entry)) (now (sads .entry))) ⌝ }
+    ensures { λ r. ⌜ r ≡ runRefusal width height (entryPlanes cur «cur_half» «cur_quarter») (entryPlanes reference «ref_half» «ref_quarter») present (entryGrid «prev_rows» «prev_cols» «prev_sads») (now (list .entry)) (entryGrid rows cols sads) ⌝ }
+    ensures { λ r. ⌜ exitGrid rows cols sads ≡ runGrid width height (entryPlanes cur «cur_half» «cur_quarter») (entryPlanes reference «ref_half» «ref_quarter») present (entryGrid «prev_rows» «prev_cols» «prev_sads») 0 (now (list .entry)) (entryGrid rows cols sads) ⌝ }
 {
     let cur_lengths = PlaneLengths {
         full: cur.len(),

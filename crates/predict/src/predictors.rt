@@ -15,7 +15,8 @@ ghost use lib.ListN.{length, take, getD};
 ghost use Rattle.motion.specs.Vector.{zeroV};
 ghost use Rattle.motion.specs.Level.{levelOf};
 ghost use Rattle.motion.specs.Frame.{Placed};
-ghost use Rattle.grid.specs.Grid.{Held, gridOf};
+ghost use Rattle.grid.specs.Grid.{Held};
+ghost use Rattle.grid.specs.Lent.{lentGrid, entryGrid};
 ghost use Rattle.sampled.specs.Slots.{slots};
 ghost use Rattle.sampled.specs.Sampled.{taken};
 ghost use Rattle.predict.specs.Predictors.{clampTo, predictor, predictorsAt, sadsAt, leastOf, minimumSad, stopThreshold, subsetOf, subsetsOf};
@@ -75,7 +76,7 @@ fn subset_of(
 ) -> Subset
     requires { ⌜ (ssdec < 16) × (cells .count ≤ slots) × (length (cells .at) ≡ slots) ⌝ }
     requires { ⌜ ((k : ℕ) → k < cells .count → (getD (cells .at) k 0 < length (now rows)) × (getD (cells .at) k 0 < length (now cols)) × (getD (cells .at) k 0 < length (now sads))) ⌝ }
-    ensures { λ r. ⌜ r ≡ subsetOf range ssdec (gridOf (now (rows .entry)) (now (cols .entry)) (now (sads .entry))) (take (cells .count) (cells .at)) ⌝ }
+    ensures { λ r. ⌜ r ≡ subsetOf range ssdec (entryGrid rows cols sads) (take (cells .count) (cells .at)) ⌝ }
 {
     let n = cells.count;
     let at = cells.at;
@@ -106,7 +107,7 @@ fn centre_of(
     sads: &[u32],
 ) -> MEStats
     requires { ⌜ (ssdec < 16) × (i < length (now rows)) × (i < length (now cols)) × (i < length (now sads)) ⌝ }
-    ensures { λ r. ⌜ (r .mv ≡ getD (predictorsAt range ssdec (gridOf (now (rows .entry)) (now (cols .entry)) (now (sads .entry))) (taken asked i)) 0 zeroV) × (r .«normalized_sad» ≡ leastOf (sadsAt (gridOf (now (rows .entry)) (now (cols .entry)) (now (sads .entry))) (taken asked i))) ⌝ }
+    ensures { λ r. ⌜ (r .mv ≡ getD (predictorsAt range ssdec (entryGrid rows cols sads) (taken asked i)) 0 zeroV) × (r .«normalized_sad» ≡ leastOf (sadsAt (entryGrid rows cols sads) (taken asked i))) ⌝ }
 {
     if !asked {
         return MEStats {
@@ -153,9 +154,9 @@ pub fn get_subset_predictors(
     sads: &[u32],
 ) -> MotionEstimationSubsets
     requires { ⌜ Placed width height (levelOf level) (levelOf level .«mv_size») bx by ⌝ }
-    requires { ⌜ (present ≡ true → Held width height (gridOf (now «prev_rows») (now «prev_cols») (now «prev_sads»))) ⌝ }
-    requires { ⌜ Held width height (gridOf (now rows) (now cols) (now sads)) ⌝ }
-    ensures { λ r. ⌜ r ≡ subsetsOf width height level bx by present (gridOf (now («prev_rows» .entry)) (now («prev_cols» .entry)) (now («prev_sads» .entry))) (gridOf (now (rows .entry)) (now (cols .entry)) (now (sads .entry))) ⌝ }
+    requires { ⌜ (present ≡ true → Held width height (lentGrid «prev_rows» «prev_cols» «prev_sads»)) ⌝ }
+    requires { ⌜ Held width height (lentGrid rows cols sads) ⌝ }
+    ensures { λ r. ⌜ r ≡ subsetsOf width height level bx by present (entryGrid «prev_rows» «prev_cols» «prev_sads») (entryGrid rows cols sads) ⌝ }
 {
     let row = level_of(level);
     let ssdec = row.ssdec;

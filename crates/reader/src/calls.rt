@@ -5,7 +5,7 @@ use held::reader::between;
 use held::reader::count_of;
 use held::reader::settled;
 ghost use mathlib.Core.Path.{_≡_};
-ghost use Rattle.grid.specs.Grid.{gridOf};
+ghost use Rattle.grid.specs.Lent.{entryGrid, exitGrid};
 ghost use Rattle.reader.specs.Calls.{newReader, takeReader, takeGrid, endReader};
 
 #[no_mangle]
@@ -23,8 +23,8 @@ pub extern "C" fn lockdapple_reader_take(
     cols: &mut [i16],
     sads: &mut [u32],
 ) -> Reader
-    ensures { λ r. ⌜ r ≡ takeReader reader (now (fragment .entry)) (gridOf (now (rows .entry)) (now (cols .entry)) (now (sads .entry))) ⌝ }
-    ensures { λ r. ⌜ gridOf (now (rows .exit)) (now (cols .exit)) (now (sads .exit)) ≡ takeGrid reader (now (fragment .entry)) (gridOf (now (rows .entry)) (now (cols .entry)) (now (sads .entry))) ⌝ }
+    ensures { λ r. ⌜ r ≡ takeReader reader (now (fragment .entry)) (entryGrid rows cols sads) ⌝ }
+    ensures { λ r. ⌜ exitGrid rows cols sads ≡ takeGrid reader (now (fragment .entry)) (entryGrid rows cols sads) ⌝ }
 {
     let first = settled(reader);
     if first.code != 0 {

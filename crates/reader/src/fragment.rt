@@ -11,7 +11,8 @@ use records::parts::get_cell;
 ghost use mathlib.Core.Path.{_≡_};
 ghost use Prim.Native.Nat.{_+_, _*_, _-_, _/_, _≤_, _<_, min};
 ghost use lib.ListN.{length, take};
-ghost use Rattle.grid.specs.Grid.{gridOf, room};
+ghost use Rattle.grid.specs.Grid.{room};
+ghost use Rattle.grid.specs.Lent.{lentGrid, entryGrid, exitGrid};
 ghost use Rattle.records.specs.Records.{cellBytes};
 ghost use Rattle.gridfile.specs.Reading.{between, taken, keep, kept};
 ghost use Rattle.held.specs.Held.{mostCells, readerOf, stateOf, Settled};
@@ -19,8 +20,8 @@ ghost use Rattle.reader.specs.Calls.{Fits};
 
 // The cell that a byte completes goes to the grid.
 fn keep_byte(reader: Reader, byte: u8, rows: &mut [i16], cols: &mut [i16], sads: &mut [u32])
-    requires { ⌜ Settled reader × Fits (room (gridOf (now rows) (now cols) (now sads))) (stateOf reader) ⌝ }
-    ensures { λ r. ⌜ gridOf (now (rows .exit)) (now (cols .exit)) (now (sads .exit)) ≡ keep (room (gridOf (now (rows .entry)) (now (cols .entry)) (now (sads .entry)))) (stateOf reader) byte (gridOf (now (rows .entry)) (now (cols .entry)) (now (sads .entry))) ⌝ }
+    requires { ⌜ Settled reader × Fits (room (lentGrid rows cols sads)) (stateOf reader) ⌝ }
+    ensures { λ r. ⌜ exitGrid rows cols sads ≡ keep (room (entryGrid rows cols sads)) (stateOf reader) byte (entryGrid rows cols sads) ⌝ }
 {
     if reader.code != 0 {
         return;
@@ -46,9 +47,9 @@ fn take_bytes(
     cols: &mut [i16],
     sads: &mut [u32],
 ) -> Reader
-    requires { ⌜ Settled reader × Fits space (stateOf reader) × (space ≡ room (gridOf (now rows) (now cols) (now sads))) ⌝ }
+    requires { ⌜ Settled reader × Fits space (stateOf reader) × (space ≡ room (lentGrid rows cols sads)) ⌝ }
     ensures { λ r. ⌜ r ≡ readerOf (taken space (stateOf reader) (now (fragment .entry))) ⌝ }
-    ensures { λ r. ⌜ gridOf (now (rows .exit)) (now (cols .exit)) (now (sads .exit)) ≡ kept space (stateOf reader) (now (fragment .entry)) (gridOf (now (rows .entry)) (now (cols .entry)) (now (sads .entry))) ⌝ }
+    ensures { λ r. ⌜ exitGrid rows cols sads ≡ kept space (stateOf reader) (now (fragment .entry)) (entryGrid rows cols sads) ⌝ }
 {
     let mut held = reader;
     let mut i = 0;
@@ -88,7 +89,7 @@ fn take_records(
     requires { ⌜ (0 < columns) × (columns ≤ mostCells) × (down ≤ mostCells) ⌝ }
     requires { ⌜ (columns * down ≤ length (now rows)) × (columns * down ≤ length (now cols)) × (columns * down ≤ length (now sads)) ⌝ }
     ensures { λ r. ⌜ (r ≤ columns * down - cells) × (cellBytes * r ≤ length (now (fragment .entry))) × (taken 0 (between columns down cells) (take (cellBytes * r) (now (fragment .entry))) ≡ between columns down (cells + r)) ⌝ }
-    ensures { λ r. ⌜ gridOf (now (rows .exit)) (now (cols .exit)) (now (sads .exit)) ≡ kept 0 (between columns down cells) (take (cellBytes * r) (now (fragment .entry))) (gridOf (now (rows .entry)) (now (cols .entry)) (now (sads .entry))) ⌝ }
+    ensures { λ r. ⌜ exitGrid rows cols sads ≡ kept 0 (between columns down cells) (take (cellBytes * r) (now (fragment .entry))) (entryGrid rows cols sads) ⌝ }
 {
     let most = whole_records(columns * down, cells, fragment.len());
     let mut i = 0;
@@ -112,9 +113,9 @@ fn take_on(
     cols: &mut [i16],
     sads: &mut [u32],
 ) -> Reader
-    requires { ⌜ Settled reader × Fits space (stateOf reader) × (space ≡ room (gridOf (now rows) (now cols) (now sads))) ⌝ }
+    requires { ⌜ Settled reader × Fits space (stateOf reader) × (space ≡ room (lentGrid rows cols sads)) ⌝ }
     ensures { λ r. ⌜ r ≡ readerOf (taken space (stateOf reader) (now (fragment .entry))) ⌝ }
-    ensures { λ r. ⌜ gridOf (now (rows .exit)) (now (cols .exit)) (now (sads .exit)) ≡ kept space (stateOf reader) (now (fragment .entry)) (gridOf (now (rows .entry)) (now (cols .entry)) (now (sads .entry))) ⌝ }
+    ensures { λ r. ⌜ exitGrid rows cols sads ≡ kept space (stateOf reader) (now (fragment .entry)) (entryGrid rows cols sads) ⌝ }
 {
     if !at_a_cell(reader) {
         return take_bytes(reader, space, fragment, rows, cols, sads);
@@ -137,9 +138,9 @@ pub fn take_fragment(
     cols: &mut [i16],
     sads: &mut [u32],
 ) -> Reader
-    requires { ⌜ Settled reader × (reader .code ≡ 0) × Fits space (stateOf reader) × (space ≡ room (gridOf (now rows) (now cols) (now sads))) ⌝ }
+    requires { ⌜ Settled reader × (reader .code ≡ 0) × Fits space (stateOf reader) × (space ≡ room (lentGrid rows cols sads)) ⌝ }
     ensures { λ r. ⌜ r ≡ readerOf (taken space (stateOf reader) (now (fragment .entry))) ⌝ }
-    ensures { λ r. ⌜ gridOf (now (rows .exit)) (now (cols .exit)) (now (sads .exit)) ≡ kept space (stateOf reader) (now (fragment .entry)) (gridOf (now (rows .entry)) (now (cols .entry)) (now (sads .entry))) ⌝ }
+    ensures { λ r. ⌜ exitGrid rows cols sads ≡ kept space (stateOf reader) (now (fragment .entry)) (entryGrid rows cols sads) ⌝ }
 {
     let ahead = missing(reader);
     if fragment.len() <= ahead {

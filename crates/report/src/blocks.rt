@@ -3,7 +3,7 @@ use compare::cells::differs_at;
 use grid::cells::stats_at;
 ghost use Prim.Native.Nat.{_+_, _-_, _*_, _≤_, _<_};
 ghost use lib.ListN.{length};
-ghost use Rattle.grid.specs.Grid.{gridOf};
+ghost use Rattle.grid.specs.Lent.{entryGrid};
 ghost use Rattle.compare.specs.Differ.{differing};
 ghost use Rattle.text.specs.Put.{Put};
 ghost use Rattle.report.specs.Lines.{lineRoom, linesOf};
@@ -24,7 +24,7 @@ fn put_difference(
     requires { ⌜ (0 < across) × (across ≤ 256) × (i < 65536) × (at + lineRoom ≤ length (now out)) ⌝ }
     requires { ⌜ (i < length (now «first_rows»)) × (i < length (now «first_cols»)) × (i < length (now «first_sads»)) ⌝ }
     requires { ⌜ (i < length (now «second_rows»)) × (i < length (now «second_cols»)) × (i < length (now «second_sads»)) ⌝ }
-    ensures { λ r. ⌜ Put (linesOf across (gridOf (now («first_rows» .entry)) (now («first_cols» .entry)) (now («first_sads» .entry))) (gridOf (now («second_rows» .entry)) (now («second_cols» .entry)) (now («second_sads» .entry))) (differing (gridOf (now («first_rows» .entry)) (now («first_cols» .entry)) (now («first_sads» .entry))) (gridOf (now («second_rows» .entry)) (now («second_cols» .entry)) (now («second_sads» .entry))) i (i + 1))) at (now (out .entry)) r (now (out .exit)) ⌝ }
+    ensures { λ r. ⌜ Put (linesOf across (entryGrid «first_rows» «first_cols» «first_sads») (entryGrid «second_rows» «second_cols» «second_sads») (differing (entryGrid «first_rows» «first_cols» «first_sads») (entryGrid «second_rows» «second_cols» «second_sads») i (i + 1))) at (now (out .entry)) r (now (out .exit)) ⌝ }
     ensures { λ r. ⌜ r ≤ at + lineRoom ⌝ }
 {
     if !differs_at(
@@ -59,7 +59,7 @@ pub fn put_lines(
     requires { ⌜ (0 < across) × (across ≤ 256) × («from» ≤ to) × (to ≤ 65536) × (lineRoom * (to - «from») ≤ length (now out)) ⌝ }
     requires { ⌜ (to ≤ length (now «first_rows»)) × (to ≤ length (now «first_cols»)) × (to ≤ length (now «first_sads»)) ⌝ }
     requires { ⌜ (to ≤ length (now «second_rows»)) × (to ≤ length (now «second_cols»)) × (to ≤ length (now «second_sads»)) ⌝ }
-    ensures { λ r. ⌜ Put (linesOf across (gridOf (now («first_rows» .entry)) (now («first_cols» .entry)) (now («first_sads» .entry))) (gridOf (now («second_rows» .entry)) (now («second_cols» .entry)) (now («second_sads» .entry))) (differing (gridOf (now («first_rows» .entry)) (now («first_cols» .entry)) (now («first_sads» .entry))) (gridOf (now («second_rows» .entry)) (now («second_cols» .entry)) (now («second_sads» .entry))) «from» to)) 0 (now (out .entry)) r (now (out .exit)) ⌝ }
+    ensures { λ r. ⌜ Put (linesOf across (entryGrid «first_rows» «first_cols» «first_sads») (entryGrid «second_rows» «second_cols» «second_sads») (differing (entryGrid «first_rows» «first_cols» «first_sads») (entryGrid «second_rows» «second_cols» «second_sads») «from» to)) 0 (now (out .entry)) r (now (out .exit)) ⌝ }
     ensures { λ r. ⌜ r ≤ length (now (out .exit)) ⌝ }
 {
     let mut at = 0;

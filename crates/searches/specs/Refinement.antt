@@ -1,13 +1,12 @@
 -- One refinement of a block, round the vector stored in its first cell.
 use Prim.Native.Nat.{ℕ}
 use mathlib.Core.List.{List}
-use lib.IntN.{ℤ}
 use lib.ListN.{length}
 use Rattle.motion.specs.declared.vector.MotionVector.{MotionVector}
 use Rattle.motion.specs.declared.block.Block.{Block}
 use Rattle.motion.specs.Level.{levelOf}
 use Rattle.motion.specs.Block.{weighed}
-use Rattle.grid.specs.Grid.{gridOf, cellAt, storedAt, room}
+use Rattle.grid.specs.Grid.{Grid, cellAt, storedAt, room}
 use Rattle.refusal.specs.Refusals.{refuse, _then_, callRefusal, gridOk}
 use Rattle.sad.specs.Cost.{rdAt}
 use Rattle.points.specs.Window.{refineWindow, windowOk}
@@ -23,9 +22,9 @@ windowAnswer b cur ref stored s =
     answer (refuse 8 (windowOk (refineWindow (b .range) stored s))) (foundOf (best .mv) (best .rd))
 
 -- refusals 1 to 4, then 5: a grid too short, then 8
-unfoldable pub refineAnswer : (width height level bx by : ℕ) (cur ref : List ℕ) (rows cols : List ℤ) (sads : List ℕ) (weight : ℕ) → Found
-refineAnswer width height level bx by cur ref rows cols sads weight =
+unfoldable pub refineAnswer : (width height level bx by : ℕ) (cur ref : List ℕ) (g : Grid) (weight : ℕ) → Found
+refineAnswer width height level bx by cur ref g weight =
     let b = weighed (blockAt width height level 1 bx by) weight in
-    let stored = storedAt rows cols (cellAt width bx by) in
-    answer (callRefusal width height level 1 bx by (length cur) (length ref) then refuse 5 (gridOk width height (room (gridOf rows cols sads))))
+    let stored = storedAt (g .rows) (g .cols) (cellAt width bx by) in
+    answer (callRefusal width height level 1 bx by (length cur) (length ref) then refuse 5 (gridOk width height (room g)))
     (windowAnswer b cur ref stored (levelOf level .ssdec))

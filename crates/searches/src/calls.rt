@@ -11,6 +11,7 @@ use refusal::refusals::grid_ok;
 use single::call::block_at;
 use single::found::Found;
 ghost use mathlib.Core.Path.{_≡_};
+ghost use Rattle.grid.specs.Lent.{entryGrid};
 ghost use Rattle.searches.specs.Searches.{searchAnswer};
 ghost use Rattle.searches.specs.Refinement.{refineAnswer};
 
@@ -118,7 +119,7 @@ pub extern "C" fn lockdapple_refine(
     sads: &[u32],
     weight: u32,
 ) -> Found
-    ensures { λ r. ⌜ r ≡ refineAnswer width height level bx by (now (cur .entry)) (now (reference .entry)) (now (rows .entry)) (now (cols .entry)) (now (sads .entry)) weight ⌝ }
+    ensures { λ r. ⌜ r ≡ refineAnswer width height level bx by (now (cur .entry)) (now (reference .entry)) (entryGrid rows cols sads) weight ⌝ }
 {
     let code = call_refusal(width, height, level, 1, bx, by, cur.len(), reference.len());
     if code != 0 {

@@ -13,7 +13,7 @@ use refusal::refusals::grids_hold;
 use sad::rd::get_fullpel_mv_rd;
 ghost use mathlib.Core.Path.{_≡_};
 ghost use Rattle.motion.specs.Rate.{rateV};
-ghost use Rattle.grid.specs.Grid.{gridOf};
+ghost use Rattle.grid.specs.Lent.{entryGrid};
 ghost use Rattle.single.specs.Leaves.{rangeAnswer, candidateAnswer};
 ghost use Rattle.single.specs.Predicting.{predictorsAnswer};
 
@@ -104,7 +104,7 @@ pub extern "C" fn lockdapple_predictors(
     cols: &[i16],
     sads: &[u32],
 ) -> Predictors
-    ensures { λ r. ⌜ r ≡ predictorsAnswer width height level bx by present (gridOf (now («prev_rows» .entry)) (now («prev_cols» .entry)) (now («prev_sads» .entry))) (gridOf (now (rows .entry)) (now (cols .entry)) (now (sads .entry))) ⌝ }
+    ensures { λ r. ⌜ r ≡ predictorsAnswer width height level bx by present (entryGrid «prev_rows» «prev_cols» «prev_sads») (entryGrid rows cols sads) ⌝ }
 {
     let code = block_refusal(width, height, level, 0, bx, by);
     if code != 0 {

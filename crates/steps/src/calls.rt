@@ -5,8 +5,8 @@ use estimate::step::Step;
 use grid::cells::room;
 use superblock::step::superblock_step;
 ghost use mathlib.Core.Path.{_≡_};
-ghost use Rattle.grid.specs.Grid.{gridOf};
-ghost use Rattle.estimate.specs.Inputs.{planesOf, planeAt};
+ghost use Rattle.grid.specs.Lent.{entryGrid, exitGrid};
+ghost use Rattle.estimate.specs.Inputs.{planeAt, entryPlanes};
 ghost use Rattle.steps.specs.Steps.{stepRefusal, stepGrid};
 
 #[no_mangle]
@@ -29,8 +29,8 @@ pub extern "C" fn lockdapple_superblock_step<'a>(
     cols: &mut [i16],
     sads: &mut [u32],
 ) -> u32
-    ensures { λ r. ⌜ r ≡ stepRefusal width height level superblock (planeAt (planesOf (now (cur .entry)) (now («cur_half» .entry)) (now («cur_quarter» .entry))) level) (planeAt (planesOf (now (reference .entry)) (now («ref_half» .entry)) (now («ref_quarter» .entry))) level) present (gridOf (now («prev_rows» .entry)) (now («prev_cols» .entry)) (now («prev_sads» .entry))) (gridOf (now (rows .entry)) (now (cols .entry)) (now (sads .entry))) ⌝ }
-    ensures { λ r. ⌜ gridOf (now (rows .exit)) (now (cols .exit)) (now (sads .exit)) ≡ stepGrid width height level superblock (planeAt (planesOf (now (cur .entry)) (now («cur_half» .entry)) (now («cur_quarter» .entry))) level) (planeAt (planesOf (now (reference .entry)) (now («ref_half» .entry)) (now («ref_quarter» .entry))) level) present (gridOf (now («prev_rows» .entry)) (now («prev_cols» .entry)) (now («prev_sads» .entry))) 0 (gridOf (now (rows .entry)) (now (cols .entry)) (now (sads .entry))) ⌝ }
+    ensures { λ r. ⌜ r ≡ stepRefusal width height level superblock (planeAt (entryPlanes cur «cur_half» «cur_quarter») level) (planeAt (entryPlanes reference «ref_half» «ref_quarter») level) present (entryGrid «prev_rows» «prev_cols» «prev_sads») (entryGrid rows cols sads) ⌝ }
+    ensures { λ r. ⌜ exitGrid rows cols sads ≡ stepGrid width height level superblock (planeAt (entryPlanes cur «cur_half» «cur_quarter») level) (planeAt (entryPlanes reference «ref_half» «ref_quarter») level) present (entryGrid «prev_rows» «prev_cols» «prev_sads») 0 (entryGrid rows cols sads) ⌝ }
 {
     let at_cur = plane_at(level, cur, cur_half, cur_quarter);
     let at_ref = plane_at(level, reference, ref_half, ref_quarter);

@@ -4,7 +4,7 @@ use refusal::refusals::level_ok;
 use refusal::refusals::planes_refusal;
 use refusal::refusals::side_ok;
 ghost use mathlib.Core.Path.{_≡_};
-ghost use Rattle.estimate.specs.Inputs.{planesOf, planeAt};
+ghost use Rattle.estimate.specs.Inputs.{planeAt, entryPlanes};
 ghost use Rattle.steps.specs.Steps.{stepTests};
 
 // The plane of a level.
@@ -14,7 +14,7 @@ pub(crate) fn plane_at<'a>(
     half: &'a [u8],
     quarter: &'a [u8],
 ) -> &'a [u8]
-    ensures { λ r. ⌜ now r ≡ planeAt (planesOf (now (full .entry)) (now (half .entry)) (now (quarter .entry))) level ⌝ }
+    ensures { λ r. ⌜ now r ≡ planeAt (entryPlanes full half quarter) level ⌝ }
 {
     if level == 4 {
         return quarter;

@@ -13,7 +13,8 @@ ghost use lib.ListN.{length};
 ghost use Rattle.motion.specs.Frame.{Side};
 ghost use Rattle.motion.specs.Limits.{largestSide, cellSide, superblockSide};
 ghost use Rattle.motion.specs.Superblock.{superblocks};
-ghost use Rattle.grid.specs.Grid.{Held, cells, gridOf};
+ghost use Rattle.grid.specs.Grid.{Held, cells};
+ghost use Rattle.grid.specs.Lent.{lentGrid, entryGrid, exitGrid};
 ghost use Rattle.grid.specs.Previous.{HeldIf};
 ghost use Rattle.estimate.specs.Inputs.{inputsIn, previousIn};
 ghost use Rattle.estimate.specs.Asked.{Ready, Leveled};
@@ -99,9 +100,9 @@ fn refine_sb_motion(
     sads: &mut [u32],
 )
     requires { ⌜ Ready (inputsIn (s .frame) (s .level) (now cur) (now reference)) × (s .superblock < superblocks (s .frame .width) (s .frame .height)) ⌝ }
-    requires { ⌜ Held (s .frame .width) (s .frame .height) (gridOf (now rows) (now cols) (now sads)) ⌝ }
+    requires { ⌜ Held (s .frame .width) (s .frame .height) (lentGrid rows cols sads) ⌝ }
     requires { ⌜ windowsOk (s .frame .width) (s .frame .height) (s .level) (s .superblock) (now rows) (now cols) ≡ true ⌝ }
-    ensures { λ r. ⌜ gridOf (now (rows .exit)) (now (cols .exit)) (now (sads .exit)) ≡ refinements (inputsIn (s .frame) (s .level) (now (cur .entry)) (now (reference .entry))) (s .superblock) (gridOf (now (rows .entry)) (now (cols .entry)) (now (sads .entry))) ⌝ }
+    ensures { λ r. ⌜ exitGrid rows cols sads ≡ refinements (inputsIn (s .frame) (s .level) (now (cur .entry)) (now (reference .entry))) (s .superblock) (entryGrid rows cols sads) ⌝ }
 {
     let width = s.frame.width;
     let height = s.frame.height;
@@ -131,9 +132,9 @@ fn estimate_sb_motion(
     sads: &mut [u32],
 )
     requires { ⌜ Ready (inputsIn (s .frame) (s .level) (now cur) (now reference)) × (s .superblock < superblocks (s .frame .width) (s .frame .height)) ⌝ }
-    requires { ⌜ HeldIf (s .frame .width) (s .frame .height) (previousIn (s .frame) (gridOf (now «prev_rows») (now «prev_cols») (now «prev_sads»))) ⌝ }
-    requires { ⌜ Held (s .frame .width) (s .frame .height) (gridOf (now rows) (now cols) (now sads)) ⌝ }
-    ensures { λ r. ⌜ gridOf (now (rows .exit)) (now (cols .exit)) (now (sads .exit)) ≡ estimates (inputsIn (s .frame) (s .level) (now (cur .entry)) (now (reference .entry))) (previousIn (s .frame) (gridOf (now («prev_rows» .entry)) (now («prev_cols» .entry)) (now («prev_sads» .entry)))) (s .superblock) (gridOf (now (rows .entry)) (now (cols .entry)) (now (sads .entry))) ⌝ }
+    requires { ⌜ HeldIf (s .frame .width) (s .frame .height) (previousIn (s .frame) (lentGrid «prev_rows» «prev_cols» «prev_sads»)) ⌝ }
+    requires { ⌜ Held (s .frame .width) (s .frame .height) (lentGrid rows cols sads) ⌝ }
+    ensures { λ r. ⌜ exitGrid rows cols sads ≡ estimates (inputsIn (s .frame) (s .level) (now (cur .entry)) (now (reference .entry))) (previousIn (s .frame) (entryGrid «prev_rows» «prev_cols» «prev_sads»)) (s .superblock) (entryGrid rows cols sads) ⌝ }
 {
     let width = s.frame.width;
     let height = s.frame.height;
@@ -175,10 +176,10 @@ pub fn superblock_step(
     sads: &mut [u32],
 ) -> bool
     requires { ⌜ Ready (inputsIn (s .frame) (s .level) (now cur) (now reference)) × (s .superblock < superblocks (s .frame .width) (s .frame .height)) ⌝ }
-    requires { ⌜ HeldIf (s .frame .width) (s .frame .height) (previousIn (s .frame) (gridOf (now «prev_rows») (now «prev_cols») (now «prev_sads»))) ⌝ }
-    requires { ⌜ Held (s .frame .width) (s .frame .height) (gridOf (now rows) (now cols) (now sads)) ⌝ }
+    requires { ⌜ HeldIf (s .frame .width) (s .frame .height) (previousIn (s .frame) (lentGrid «prev_rows» «prev_cols» «prev_sads»)) ⌝ }
+    requires { ⌜ Held (s .frame .width) (s .frame .height) (lentGrid rows cols sads) ⌝ }
     ensures { λ r. ⌜ r ≡ windowsOk (s .frame .width) (s .frame .height) (s .level) (s .superblock) (now (rows .entry)) (now (cols .entry)) ⌝ }
-    ensures { λ r. ⌜ gridOf (now (rows .exit)) (now (cols .exit)) (now (sads .exit)) ≡ step (inputsIn (s .frame) (s .level) (now (cur .entry)) (now (reference .entry))) (previousIn (s .frame) (gridOf (now («prev_rows» .entry)) (now («prev_cols» .entry)) (now («prev_sads» .entry)))) (s .superblock) (gridOf (now (rows .entry)) (now (cols .entry)) (now (sads .entry))) ⌝ }
+    ensures { λ r. ⌜ exitGrid rows cols sads ≡ step (inputsIn (s .frame) (s .level) (now (cur .entry)) (now (reference .entry))) (previousIn (s .frame) (entryGrid «prev_rows» «prev_cols» «prev_sads»)) (s .superblock) (entryGrid rows cols sads) ⌝ }
 {
     if !windows_ok(s, &*rows, &*cols) {
         return false;

@@ -97,7 +97,7 @@ grids-same {width} {height} {present} {prev} {before} {g} {h} hp e =
         rw (holds (both .one), holds (both .other))
 
 -- one refinement
-pub refine-same : (width height level bx by : ℕ) {cur cur′ ref ref′ : List ℕ} → SamePlane width height level cur cur′ → SamePlane width height level ref ref′ → (g h : Grid) → SameInside width height g h → (weight : ℕ) → refineAnswer width height level bx by cur ref (g .rows) (g .cols) (g .sads) weight ≡ refineAnswer width height level bx by cur′ ref′ (h .rows) (h .cols) (h .sads) weight
+pub refine-same : (width height level bx by : ℕ) {cur cur′ ref ref′ : List ℕ} → SamePlane width height level cur cur′ → SamePlane width height level ref ref′ → (g h : Grid) → SameInside width height g h → (weight : ℕ) → refineAnswer width height level bx by cur ref g weight ≡ refineAnswer width height level bx by cur′ ref′ h weight
 unfolding refineAnswer windowAnswer statsAt
 refine-same width height level bx by {cur} {cur′} {ref} {ref′} hc hr g h e weight =
     answer-same (λ i. call-same width height level hc hr 1 bx by i then refuse 5 (grid i))

@@ -44,7 +44,7 @@ SamePrevious width height present prev before = (present ≡ 0 → ⊥) → Same
 pub record RestUnread : Type 0 where
   pub candidate : (width height level refined bx by : ℕ) {cur cur′ ref ref′ : List ℕ} → SamePlane width height level cur cur′ → SamePlane width height level ref ref′ → (v : MotionVector) (weight : ℕ) → candidateAnswer width height level refined bx by cur ref v weight ≡ candidateAnswer width height level refined bx by cur′ ref′ v weight
   pub searches : (method : Method) (width height level bx by : ℕ) {cur cur′ ref ref′ : List ℕ} → SamePlane width height level cur cur′ → SamePlane width height level ref ref′ → (v : MotionVector) (weight : ℕ) → searchAnswer method width height level bx by cur ref v weight ≡ searchAnswer method width height level bx by cur′ ref′ v weight
-  pub refines : (width height level bx by : ℕ) {cur cur′ ref ref′ : List ℕ} → SamePlane width height level cur cur′ → SamePlane width height level ref ref′ → (g h : Grid) → SameInside width height g h → (weight : ℕ) → refineAnswer width height level bx by cur ref (g .rows) (g .cols) (g .sads) weight ≡ refineAnswer width height level bx by cur′ ref′ (h .rows) (h .cols) (h .sads) weight
+  pub refines : (width height level bx by : ℕ) {cur cur′ ref ref′ : List ℕ} → SamePlane width height level cur cur′ → SamePlane width height level ref ref′ → (g h : Grid) → SameInside width height g h → (weight : ℕ) → refineAnswer width height level bx by cur ref g weight ≡ refineAnswer width height level bx by cur′ ref′ h weight
   pub predictors : (width height level bx by present : ℕ) (prev before g h : Grid) → SamePrevious width height present prev before → SameInside width height g h → predictorsAnswer width height level bx by present prev g ≡ predictorsAnswer width height level bx by present before h
   pub step : (width height level n : ℕ) {cur cur′ ref ref′ : List ℕ} → SamePlane width height level cur cur′ → SamePlane width height level ref ref′ → (present : ℕ) (prev before : Grid) → SamePrevious width height present prev before → (weight : ℕ) (g h : Grid) → SameInside width height g h → (stepRefusal width height level n cur ref present prev g ≡ stepRefusal width height level n cur′ ref′ present before h) × SameInside width height (stepGrid width height level n cur ref present prev weight g) (stepGrid width height level n cur′ ref′ present before weight h)
   pub run : (width height : ℕ) (cur cur′ ref ref′ : Planes) → SamePlanes width height cur cur′ → SamePlanes width height ref ref′ → (present : ℕ) (prev before : Grid) → SamePrevious width height present prev before → (weight : ℕ) (list : List ℕ) (g h : Grid) → SameInside width height g h → (runRefusal width height cur ref present prev list g ≡ runRefusal width height cur′ ref′ present before list h) × SameInside width height (runGrid width height cur ref present prev weight list g) (runGrid width height cur′ ref′ present before weight list h)
