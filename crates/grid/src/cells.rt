@@ -1,3 +1,4 @@
+use motion::limits::CELL_SIDE;
 use motion::vector::MotionVector;
 ghost use mathlib.Core.Path.{_≡_};
 ghost use Prim.Native.Nat.{_≤_, _<_, min};
@@ -17,7 +18,7 @@ pub fn cell_at(width: usize, bx: usize, by: usize) -> usize
     requires { ⌜ (width ≤ largestSide) × (bx ≤ largestSide) × (by ≤ largestSide) ⌝ }
     ensures { λ r. ⌜ r ≡ cellAt width bx by ⌝ }
 {
-    by * (width / 4) + bx
+    by * (width / CELL_SIDE) + bx
 }
 
 // The vector stored in a cell.

@@ -1,6 +1,7 @@
 use crate::cells::MEStats;
 use crate::cells::cell_at;
 use crate::cells::save_cell;
+use motion::limits::CELL_SIDE;
 ghost use mathlib.Core.Path.{_≡_};
 ghost use Prim.Native.Nat.{_+_, _/_, _≤_, _<_, min};
 ghost use lib.ListN.{length, set};
@@ -84,8 +85,9 @@ fn block_end(side: usize, mv_size: usize, b: usize) -> usize
     requires { ⌜ (side ≤ largestSide) × («mv_size» ≤ largestSide) × (b ≤ largestSide) ⌝ }
     ensures { λ r. ⌜ r ≡ min (b + «mv_size» / cellSide) (side / cellSide) ⌝ }
 {
-    let end = b + mv_size / 4;
-    if end < side / 4 { end } else { side / 4 }
+    let end = b + mv_size / CELL_SIDE;
+    let edge = side / CELL_SIDE;
+    if end < edge { end } else { edge }
 }
 
 // One result over the cells of a block, cropped at the frame.

@@ -6,6 +6,9 @@ use crate::write::Written;
 use crate::write::put_cells;
 use crate::write::write_refusal;
 use grid::cells::room;
+use motion::limits::CELL_SIDE;
+use records::limits::CELL_BYTES;
+use records::limits::HEADER_BYTES;
 use records::parts::put_header;
 ghost use mathlib.Core.Path.{_≡_};
 ghost use Rattle.grid.specs.Lent.{entryGrid, exitGrid};
@@ -33,12 +36,12 @@ pub extern "C" fn lockdapple_grid_write(
     if code != 0 {
         return Written { code, bytes: 0 };
     }
-    let count = (width / 4) * (height / 4);
-    put_header(width / 4, height / 4, file);
+    let count = (width / CELL_SIDE) * (height / CELL_SIDE);
+    put_header(width / CELL_SIDE, height / CELL_SIDE, file);
     put_cells(count, rows, cols, sads, file);
     Written {
         code: 0,
-        bytes: (4 + 10 * count) as u64,
+        bytes: (HEADER_BYTES + CELL_BYTES * count) as u64,
     }
 }
 

@@ -1,4 +1,9 @@
 use grid::cells::save_cell;
+use records::limits::CELL_BYTES;
+use records::limits::HEADER_BYTES;
+use records::limits::MARK;
+use records::limits::MARK_FIRST;
+use records::limits::MARK_SECOND;
 use records::numbers::get_16;
 use records::parts::get_cell;
 ghost use mathlib.Core.Path.{_≡_};
@@ -28,13 +33,13 @@ fn mark_refusal(file: &[u8], at: usize) -> u32
     if file.len() <= at {
         return 11;
     }
-    if file[at] != 0x4C {
+    if file[at] != MARK_FIRST {
         return 10;
     }
     if file.len() <= at + 1 {
         return 11;
     }
-    if file[at + 1] != 0x47 {
+    if file[at + 1] != MARK_SECOND {
         return 10;
     }
     0
@@ -48,7 +53,7 @@ pub(crate) fn header_refusal(file: &[u8], room: usize) -> u32
     if code != 0 {
         return code;
     }
-    if file.len() < 4 {
+    if file.len() < HEADER_BYTES {
         return 11;
     }
     let columns = file[2] as usize + 1;
@@ -72,7 +77,7 @@ fn marks_hold(file: &[u8], count: usize) -> bool
 {
     let mut i = 0;
     while i < count {
-        if get_16(file, 4 + 10 * i) != 0x474C {
+        if get_16(file, HEADER_BYTES + CELL_BYTES * i) != MARK {
             return false;
         }
         i += 1;
@@ -86,12 +91,12 @@ pub(crate) fn cells_refusal(file: &[u8], columns: usize, rows: usize) -> u32
     ensures { λ r. ⌜ r ≡ ended (taken 0 (between columns rows 0) (drop headerBytes (now (file .entry)))) ⌝ }
 {
     let count = columns * rows;
-    let there = (file.len() - 4) / 10;
+    let there = (file.len() - HEADER_BYTES) / CELL_BYTES;
     if there < count {
         if !marks_hold(file, there) {
             return 10;
         }
-        if mark_refusal(file, 4 + 10 * there) == 10 {
+        if mark_refusal(file, HEADER_BYTES + CELL_BYTES * there) == 10 {
             return 10;
         }
         return 11;
@@ -99,7 +104,7 @@ pub(crate) fn cells_refusal(file: &[u8], columns: usize, rows: usize) -> u32
     if !marks_hold(file, count) {
         return 10;
     }
-    if file.len() != 4 + 10 * count {
+    if file.len() != HEADER_BYTES + CELL_BYTES * count {
         return 11;
     }
     0
@@ -121,7 +126,7 @@ pub(crate) fn get_cells(
     let count = columns * down;
     let mut i = 0;
     while i < count {
-        let cell = get_cell(file, 4 + 10 * i);
+        let cell = get_cell(file, HEADER_BYTES + CELL_BYTES * i);
         save_cell(i, cell, rows, cols, sads);
         i += 1;
     }

@@ -1,4 +1,7 @@
 use grid::cells::stats_at;
+use motion::limits::CELL_SIDE;
+use records::limits::CELL_BYTES;
+use records::limits::HEADER_BYTES;
 use records::parts::put_cell;
 use refusal::refusals::grid_ok;
 use refusal::refusals::side_ok;
@@ -30,7 +33,7 @@ pub(crate) fn write_refusal(width: usize, height: usize, room: usize, bytes: usi
     if !grid_ok(width, height, room) {
         return 5;
     }
-    if bytes < 4 + 10 * ((width / 4) * (height / 4)) {
+    if bytes < HEADER_BYTES + CELL_BYTES * ((width / CELL_SIDE) * (height / CELL_SIDE)) {
         return 13;
     }
     0
@@ -43,8 +46,16 @@ pub(crate) fn put_cells(count: usize, rows: &[i16], cols: &[i16], sads: &[u32], 
 {
     let mut i = 0;
     while i < count {
-        put_cell(4 + 10 * i, stats_at(rows, cols, sads, i), file);
-        put_cell(4 + 10 * (i + 1), stats_at(rows, cols, sads, i + 1), file);
+        put_cell(
+            HEADER_BYTES + CELL_BYTES * i,
+            stats_at(rows, cols, sads, i),
+            file,
+        );
+        put_cell(
+            HEADER_BYTES + CELL_BYTES * (i + 1),
+            stats_at(rows, cols, sads, i + 1),
+            file,
+        );
         i += 2;
     }
 }

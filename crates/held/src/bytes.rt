@@ -1,5 +1,7 @@
 use crate::reader::Reader;
 use crate::reader::between;
+use records::limits::MARK_FIRST;
+use records::limits::MARK_SECOND;
 ghost use mathlib.Core.Path.{_≡_};
 ghost use mathlib.Core.List.{[], _∷_, _++_};
 ghost use Prim.Native.Nat.{_+_, _≤_, _<_};
@@ -47,10 +49,10 @@ fn mark_holds(place: u32, byte: u8) -> bool
     ensures { λ r. ⌜ r ≡ marked place byte ⌝ }
 {
     if place == 0 {
-        return byte == 0x4C;
+        return byte == MARK_FIRST;
     }
     if place == 1 {
-        return byte == 0x47;
+        return byte == MARK_SECOND;
     }
     true
 }

@@ -1,4 +1,7 @@
 use grid::cells::least;
+use records::limits::CELL_BYTES;
+use records::limits::HEADER_BYTES;
+use records::limits::MOST_CELLS;
 ghost use mathlib.Core.Path.{_≡_};
 ghost use mathlib.Core.Bool.{_&&_};
 ghost use mathlib.Core.List.{_++_};
@@ -54,7 +57,11 @@ fn first_bytes(part: [u8; 16], count: usize) -> [u8; 16]
 fn most_held(columns: u32) -> usize
     ensures { λ r. ⌜ r ≡ recordBytes columns - 1 ⌝ }
 {
-    if columns == 0 { 3 } else { 9 }
+    if columns == 0 {
+        HEADER_BYTES - 1
+    } else {
+        CELL_BYTES - 1
+    }
 }
 
 // Whether a cell's record comes next, none of whose bytes has come.
@@ -75,7 +82,7 @@ pub fn missing(reader: Reader) -> usize
     requires { ⌜ reader .held ≤ recordBytes (reader .columns) ⌝ }
     ensures { λ r. ⌜ r ≡ (recordBytes (reader .columns) - reader .held) % cellBytes ⌝ }
 {
-    (most_held(reader.columns) + 1 - reader.held as usize) % 10
+    (most_held(reader.columns) + 1 - reader.held as usize) % CELL_BYTES
 }
 
 // What a reader stands for: nothing but what is in use counts.
@@ -87,10 +94,10 @@ pub fn settled(reader: Reader) -> Reader
     if reader.code != 0 {
         return between(reader.code, columns, rows, reader.cells);
     }
-    if 256 < columns {
+    if MOST_CELLS < columns {
         return between(12, columns, rows, reader.cells);
     }
-    if 256 < rows {
+    if MOST_CELLS < rows {
         return between(12, columns, rows, reader.cells);
     }
     let held = least(reader.held as usize, most_held(columns));

@@ -3,7 +3,7 @@ use crate::runs::run_tests;
 use estimate::step::Frame;
 use frame::run::frame_run;
 use grid::cells::room;
-use motion::superblock::superblocks_along;
+use motion::superblocks::superblocks_along;
 use order::list::list_refusal;
 ghost use mathlib.Core.Path.{_≡_};
 ghost use Rattle.grid.specs.Lent.{entryGrid, exitGrid};

@@ -1,4 +1,5 @@
 use crate::level::Level;
+use crate::limits::CELL_SIDE;
 use crate::range::MvRange;
 use crate::range::get_mv_range;
 ghost use mathlib.Core.Path.{_≡_};
@@ -62,7 +63,7 @@ pub fn cropped(side: usize, mv_size: usize, b: usize) -> usize
     requires { ⌜ (cellSide * b ≤ side) × (side ≤ largestSide) ⌝ }
     ensures { λ r. ⌜ r ≡ croppedTo side «mv_size» b ⌝ }
 {
-    let left = side - 4 * b;
+    let left = side - CELL_SIDE * b;
     if mv_size < left { mv_size } else { left }
 }
 
@@ -82,11 +83,13 @@ pub fn block_of(
     let ssdec = level.ssdec;
     let blk_w = cropped(width, mv_size, bx);
     let blk_h = cropped(height, mv_size, by);
-    let range = get_mv_range(width / 4, height / 4, bx, by, blk_w, blk_h, ssdec);
+    let w_in_b = width / CELL_SIDE;
+    let h_in_b = height / CELL_SIDE;
+    let range = get_mv_range(w_in_b, h_in_b, bx, by, blk_w, blk_h, ssdec);
     let plane = plane_of(width, height, level);
     Block {
-        po_x: (4 * bx) >> ssdec,
-        po_y: (4 * by) >> ssdec,
+        po_x: (CELL_SIDE * bx) >> ssdec,
+        po_y: (CELL_SIDE * by) >> ssdec,
         w: blk_w >> ssdec,
         h: blk_h >> ssdec,
         stride: plane.stride,

@@ -1,3 +1,4 @@
+use crate::limits::VECTOR_LIMIT;
 use crate::vector::MotionVector;
 ghost use mathlib.Core.Path.{_≡_};
 ghost use Prim.Native.Nat.{ℕ, _+_, _*_, _≤_, _<_, _^_, min};
@@ -5,9 +6,6 @@ ghost use lib.IntN.{pos};
 ghost use lib.Signed.{shrZ};
 ghost use Rattle.motion.specs.Limits.{vectorLimit};
 ghost use Rattle.motion.specs.Range.{mvMin, mvMax, clip, rangeOf, within, inRange};
-
-// Vector components keep inside this on either side of zero.
-const VECTOR_LIMIT: usize = 16_383;
 
 // The vectors that a block may take, both ends included.
 pub struct MvRange {

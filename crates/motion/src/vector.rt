@@ -1,3 +1,4 @@
+use crate::limits::EIGHTHS;
 ghost use mathlib.Core.Path.{_≡_};
 ghost use Prim.Native.Nat.{_<_};
 ghost use Rattle.motion.specs.Vector.{FitsV, plusV, timesV, shrV, shlV, fullpelV, fullpel};
@@ -62,5 +63,5 @@ impl MotionVector {
 fn whole_pixels(component: i16) -> i16
     ensures { λ r. ⌜ r ≡ fullpel component ⌝ }
 {
-    component / 8 * 8
+    component / EIGHTHS * EIGHTHS
 }

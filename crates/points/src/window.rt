@@ -1,3 +1,4 @@
+use motion::limits::EIGHTHS;
 use motion::range::MvRange;
 use motion::vector::MotionVector;
 ghost use mathlib.Core.Path.{_≡_};
@@ -34,7 +35,7 @@ impl Window {
 fn eighth(component: i16) -> i16
     ensures { λ r. ⌜ r ≡ quotZ component (pos 8) ⌝ }
 {
-    component / 8
+    component / EIGHTHS
 }
 
 fn larger_of(a: i16, b: i16) -> i16
@@ -88,5 +89,5 @@ pub fn span_at(lo: i16, k: usize) -> i16
     requires { ⌜ Spanned lo k ⌝ }
     ensures { λ r. ⌜ r ≡ spanAt lo k ⌝ }
 {
-    8 * (lo + k as i16)
+    EIGHTHS * (lo + k as i16)
 }

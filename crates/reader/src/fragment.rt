@@ -6,6 +6,8 @@ use held::reader::at_a_cell;
 use held::reader::between;
 use held::reader::count_of;
 use held::reader::missing;
+use records::limits::CELL_BYTES;
+use records::limits::MARK;
 use records::numbers::get_16;
 use records::parts::get_cell;
 ghost use mathlib.Core.Path.{_≡_};
@@ -72,7 +74,7 @@ fn whole_records(count: usize, cells: usize, bytes: usize) -> usize
     if count <= cells {
         return 0;
     }
-    least(count - cells, bytes / 10)
+    least(count - cells, bytes / CELL_BYTES)
 }
 
 // Cell records that are whole and good, from a fragment's start: how many. It need not be all of them, as the bytes behind are
@@ -94,10 +96,10 @@ fn take_records(
     let most = whole_records(columns * down, cells, fragment.len());
     let mut i = 0;
     while i < most {
-        if get_16(fragment, 10 * i) != 0x474C {
+        if get_16(fragment, CELL_BYTES * i) != MARK {
             return i;
         }
-        let cell = get_cell(fragment, 10 * i);
+        let cell = get_cell(fragment, CELL_BYTES * i);
         save_cell(cells + i, cell, rows, cols, sads);
         i += 1;
     }
@@ -125,7 +127,7 @@ fn take_on(
     let cells = reader.cells as usize;
     let whole = take_records(columns, down, cells, fragment, rows, cols, sads);
     let last = between(0, reader.columns, reader.rows, reader.cells + whole as u32);
-    let rest = &fragment[10 * whole..fragment.len()];
+    let rest = &fragment[CELL_BYTES * whole..fragment.len()];
     take_bytes(last, space, rest, rows, cols, sads)
 }
 

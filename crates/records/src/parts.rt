@@ -1,3 +1,5 @@
+use crate::limits::MARK_FIRST;
+use crate::limits::MARK_SECOND;
 use crate::numbers::bits_of;
 use crate::numbers::get_16;
 use crate::numbers::get_32;
@@ -16,8 +18,8 @@ fn put_mark(at: usize, file: &mut [u8])
     requires { ⌜ at + 2 ≤ length (now file) ⌝ }
     ensures { λ r. ⌜ now (file .exit) ≡ sets (now (file .entry)) at mark ⌝ }
 {
-    file[at] = 0x4C;
-    file[at + 1] = 0x47;
+    file[at] = MARK_FIRST;
+    file[at + 1] = MARK_SECOND;
 }
 
 // Columns and rows of cells, each less one.

@@ -1,19 +1,20 @@
 use motion::block::plane_of;
 use motion::level::level_of;
+use motion::limits::CELL_SIDE;
+use motion::limits::LARGEST_SIDE;
+use motion::limits::SIDE_STEP;
 ghost use mathlib.Core.Path.{_≡_};
 ghost use Prim.Native.Nat.{_≤_};
 ghost use Rattle.motion.specs.Limits.{largestSide};
 ghost use Rattle.refusal.specs.Refusals.{sideOk, levelOk, sizeOf, startOk, planeOk, blockRefusal, planesRefusal, callRefusal, gridOk, gridsHold};
 
-const LARGEST_SIDE: usize = 1024;
-
 pub fn side_ok(side: usize) -> bool
     ensures { λ r. ⌜ r ≡ sideOk side ⌝ }
 {
-    if side % 8 != 0 {
+    if side % SIDE_STEP != 0 {
         return false;
     }
-    if side < 8 {
+    if side < SIDE_STEP {
         return false;
     }
     side <= LARGEST_SIDE
@@ -50,10 +51,10 @@ fn start_ok(side: usize, level: usize, refined: usize, b: usize) -> bool
     requires { ⌜ side ≤ largestSide ⌝ }
     ensures { λ r. ⌜ r ≡ startOk side (sizeOf level refined) b ⌝ }
 {
-    if side / 4 <= b {
+    if side / CELL_SIDE <= b {
         return false;
     }
-    (4 * b) % size_of(level, refined) == 0
+    (CELL_SIDE * b) % size_of(level, refined) == 0
 }
 
 // The tests behind refusals 1 to 3, in their order.
@@ -138,7 +139,7 @@ pub fn grid_ok(width: usize, height: usize, room: usize) -> bool
     requires { ⌜ (width ≤ largestSide) × (height ≤ largestSide) ⌝ }
     ensures { λ r. ⌜ r ≡ gridOk width height room ⌝ }
 {
-    (width / 4) * (height / 4) <= room
+    (width / CELL_SIDE) * (height / CELL_SIDE) <= room
 }
 
 // The test behind refusal 5: the room of the grid, and of a previous one that is said to be present.

@@ -1,4 +1,5 @@
 use motion::block::Block;
+use motion::limits::EIGHTHS;
 use motion::vector::MotionVector;
 ghost use mathlib.Core.Path.{_≡_};
 ghost use mathlib.Core.Bool.{true};
@@ -13,7 +14,7 @@ fn place(po: usize, component: i16, pad: usize) -> usize
     requires { ⌜ (po ≤ largestPlace) × (pad ≤ largestPlace) × (nonNeg (moved po component +ℤ pos pad) ≡ true) ⌝ }
     ensures { λ r. ⌜ r ≡ natAbs (moved po component +ℤ pos pad) ⌝ }
 {
-    (po as isize + (component / 8) as isize + pad as isize) as usize
+    (po as isize + (component / EIGHTHS) as isize + pad as isize) as usize
 }
 
 // Where the block itself starts in its plane.

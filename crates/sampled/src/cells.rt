@@ -1,6 +1,8 @@
 use grid::cells::cell_at;
 use motion::block::cropped;
 use motion::level::level_of;
+use motion::limits::CELL_SIDE;
+use motion::limits::SB_SIZE;
 ghost use mathlib.Core.Path.{_≡_};
 ghost use mathlib.Core.Bool.{_&&_};
 ghost use mathlib.Core.List.{[]};
@@ -58,7 +60,7 @@ fn cells_along(side: usize, mv_size: usize, b: usize) -> usize
     requires { ⌜ (cellSide * b ≤ side) × (side ≤ largestSide) ⌝ }
     ensures { λ r. ⌜ r ≡ cellsAlong side «mv_size» b ⌝ }
 {
-    cropped(side, mv_size, b) / 4
+    cropped(side, mv_size, b) / CELL_SIDE
 }
 
 // The cells beside the middles of a block's edges, those inside the grid; right and bottom only where asked for.
@@ -80,8 +82,8 @@ fn neighbours(
     let y = by + h / 2;
     let end_x = bx + w;
     let end_y = by + h;
-    let across = both(right, end_x < width / 4);
-    let down = both(bottom, end_y < height / 4);
+    let across = both(right, end_x < width / CELL_SIDE);
+    let down = both(bottom, end_y < height / CELL_SIDE);
     let mut at = [0; 5];
     let left = take(&mut at, 0, 0 < bx, cell_at(width, before(bx), y));
     let top = take(&mut at, left, 0 < by, cell_at(width, x, before(by)));
@@ -108,7 +110,7 @@ fn odd_block(level: usize, b: usize) -> bool
     if level == 4 {
         return false;
     }
-    (4 * b) % 64 / level_of(level).mv_size % 2 == 1
+    (CELL_SIDE * b) % SB_SIZE / level_of(level).mv_size % 2 == 1
 }
 
 // The cells of B.

@@ -1,4 +1,4 @@
-use motion::superblock::superblocks_of;
+use motion::superblocks::superblocks_of;
 use refusal::refusals::grids_hold;
 use refusal::refusals::level_ok;
 use refusal::refusals::planes_refusal;

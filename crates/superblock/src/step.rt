@@ -4,8 +4,10 @@ use estimate::block::window_at;
 use estimate::step::Step;
 use grid::save::save_me_stats;
 use motion::level::level_of;
-use motion::superblock::superblock_x;
-use motion::superblock::superblock_y;
+use motion::limits::CELL_SIDE;
+use motion::limits::SB_SIZE;
+use motion::superblocks::superblock_x;
+use motion::superblocks::superblock_y;
 ghost use mathlib.Core.Path.{_≡_};
 ghost use mathlib.Core.Bool.{true};
 ghost use Prim.Native.Nat.{_*_, _≤_, _<_};
@@ -25,8 +27,8 @@ fn blocks_along(side: usize, mv_size: usize, b: usize) -> usize
     requires { ⌜ (side ≤ largestSide) × (cellSide * b ≤ side) × (0 < «mv_size») × («mv_size» ≤ superblockSide) ⌝ }
     ensures { λ r. ⌜ r ≡ blocksAlong side «mv_size» b ⌝ }
 {
-    let left = side - 4 * b;
-    let extent = if left < 64 { left } else { 64 };
+    let left = side - CELL_SIDE * b;
+    let extent = if left < SB_SIZE { left } else { SB_SIZE };
     (extent + (mv_size - 1)) / mv_size
 }
 
@@ -45,7 +47,7 @@ fn block_x(width: usize, mv_size: usize, superblock: usize, k: usize) -> usize
     ensures { λ r. ⌜ r ≡ blockX width «mv_size» superblock k ⌝ }
 {
     let first = superblock_x(width, superblock);
-    first + mv_size / 4 * (k % blocks_along(width, mv_size, first))
+    first + mv_size / CELL_SIDE * (k % blocks_along(width, mv_size, first))
 }
 
 // The row of block k of a superblock.
@@ -54,7 +56,7 @@ fn block_y(width: usize, mv_size: usize, superblock: usize, k: usize) -> usize
     ensures { λ r. ⌜ r ≡ blockY width «mv_size» superblock k ⌝ }
 {
     let across = blocks_along(width, mv_size, superblock_x(width, superblock));
-    superblock_y(width, superblock) + mv_size / 4 * (k / across)
+    superblock_y(width, superblock) + mv_size / CELL_SIDE * (k / across)
 }
 
 // How many refinements a step has.

@@ -24,23 +24,17 @@ get-mv-range-requires c κs = omega (arith, c .before .cropped .ensures, c .crop
 plane-of-requires : tie.Need-plane-of-requires
 plane-of-requires c κs = search needs
 
-mul-t12 : tie.Need-mul-t12
-mul-t12 c = search needs
+mul-t14 : tie.Need-mul-t14
+mul-t14 c = search needs
 
-cast-t13 : tie.Need-cast-t13
-cast-t13 c = search needs
+cast-t15 : tie.Need-cast-t15
+cast-t15 c = search needs
 
-shr-t14 : tie.Need-shr-t14
-shr-t14 c = search needs
+shr-t16 : tie.Need-shr-t16
+shr-t16 c = search needs
 
-mul-t15 : tie.Need-mul-t15
-mul-t15 c = search needs
-
-cast-t16 : tie.Need-cast-t16
-cast-t16 c = search needs
-
-shr-t17 : tie.Need-shr-t17
-shr-t17 c = search needs
+mul-t17 : tie.Need-mul-t17
+mul-t17 c = search needs
 
 cast-t18 : tie.Need-cast-t18
 cast-t18 c = search needs
@@ -53,6 +47,12 @@ cast-t20 c = search needs
 
 shr-t21 : tie.Need-shr-t21
 shr-t21 c = search needs
+
+cast-t22 : tie.Need-cast-t22
+cast-t22 c = search needs
+
+shr-t23 : tie.Need-shr-t23
+shr-t23 c = search needs
 
 returns : tie.Need-returns
 unfolding blockOf planeOf
@@ -82,14 +82,14 @@ block-of-spec =
     cropped-requires-2
     get-mv-range-requires
     plane-of-requires
-    mul-t12
-    cast-t13
-    shr-t14
-    mul-t15
-    cast-t16
-    shr-t17
+    mul-t14
+    cast-t15
+    shr-t16
+    mul-t17
     cast-t18
     shr-t19
     cast-t20
     shr-t21
+    cast-t22
+    shr-t23
     returns)

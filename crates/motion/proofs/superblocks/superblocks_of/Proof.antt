@@ -1,4 +1,4 @@
--- `motion::superblock::superblocks_of` meets its contract.
+-- `motion::superblocks::superblocks_of` meets its contract.
 -- Assumes nothing.
 use borrow.Author.Needs.{needs}
 use mathlib.Core.Path.{ap₂}
@@ -6,8 +6,8 @@ use Prim.Native.Nat.{_*_}
 use native.Mathlib.Nat.{mul-le-mul}
 use native.Mathlib.Omega.{arith}
 use Rattle.motion.specs.Superblock.{superblocks}
-use Rattle.motion.proofs.superblock.superblocks_of.Statement.{statement}
-use Rattle.motion.proofs.superblock.superblocks_of.Tie as tie
+use Rattle.motion.proofs.superblocks.superblocks_of.Statement.{statement}
+use Rattle.motion.proofs.superblocks.superblocks_of.Tie as tie
 
 superblocks-along-requires : tie.Need-superblocks-along-requires
 superblocks-along-requires c κs = search needs

@@ -1,9 +1,9 @@
+use crate::limits::CELL_SIDE;
+use crate::limits::SB_SIZE;
 ghost use mathlib.Core.Path.{_≡_};
 ghost use Prim.Native.Nat.{_≤_, _<_};
 ghost use Rattle.motion.specs.Limits.{largestSide};
 ghost use Rattle.motion.specs.Superblock.{superblocksAlong, superblocks, superblockX, superblockY};
-
-const SB_SIZE: usize = 64;
 
 // How many superblocks lie along a side.
 pub fn superblocks_along(side: usize) -> usize
@@ -26,7 +26,7 @@ pub fn superblock_x(width: usize, superblock: usize) -> usize
     requires { ⌜ (0 < width) × (width ≤ largestSide) ⌝ }
     ensures { λ r. ⌜ r ≡ superblockX width superblock ⌝ }
 {
-    SB_SIZE / 4 * (superblock % superblocks_along(width))
+    SB_SIZE / CELL_SIDE * (superblock % superblocks_along(width))
 }
 
 // The row of a superblock's first cell.
@@ -34,5 +34,5 @@ pub fn superblock_y(width: usize, superblock: usize) -> usize
     requires { ⌜ (0 < width) × (width ≤ largestSide) × (superblock ≤ largestSide) ⌝ }
     ensures { λ r. ⌜ r ≡ superblockY width superblock ⌝ }
 {
-    SB_SIZE / 4 * (superblock / superblocks_along(width))
+    SB_SIZE / CELL_SIDE * (superblock / superblocks_along(width))
 }

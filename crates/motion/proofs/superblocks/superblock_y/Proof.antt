@@ -1,4 +1,4 @@
--- `motion::superblock::superblock_y` meets its contract.
+-- `motion::superblocks::superblock_y` meets its contract.
 -- Assumes nothing.
 use borrow.Author.Needs.{needs}
 use mathlib.Core.Path.{ap}
@@ -6,8 +6,8 @@ use Prim.Native.Nat.{ℕ, _*_, _/_}
 use native.Mathlib.Nat.{div-le-self}
 use native.Mathlib.Omega.{arith}
 use Rattle.motion.specs.Superblock.{superblockY}
-use Rattle.motion.proofs.superblock.superblock_y.Statement.{statement}
-use Rattle.motion.proofs.superblock.superblock_y.Tie as tie
+use Rattle.motion.proofs.superblocks.superblock_y.Statement.{statement}
+use Rattle.motion.proofs.superblocks.superblock_y.Tie as tie
 
 superblocks-along-requires : tie.Need-superblocks-along-requires
 superblocks-along-requires c κs = search needs
