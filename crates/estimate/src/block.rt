@@ -110,7 +110,8 @@ fn short_search(
     let empty = MotionSearchResult::empty();
     let subset_b = p.subset_b;
     let subset_c = p.subset_c;
-    let middle = empty.try_mv(b, cur, reference, p.center);
+    let center = MotionSearchResult::measured(b, cur, reference, p.center);
+    let middle = empty.move_to(center);
     let near = try_mvs(b, cur, reference, middle, subset_b, p.b_count);
     let best = try_mvs(b, cur, reference, near, subset_c, p.c_count);
     fullpel_diamond_search(b, cur, reference, best)

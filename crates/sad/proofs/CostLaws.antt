@@ -14,7 +14,7 @@ use Rattle.motion.specs.Limits.{largestSample}
 use Rattle.motion.specs.Range.{inRange}
 use Rattle.motion.proofs.RateLaws.{rateV-le}
 use Rattle.sad.specs.Sad.{sadBlock}
-use Rattle.sad.specs.Asked.{Inside, largestBlock, Measured, Lies}
+use Rattle.sad.specs.Asked.{Inside, largestBlock, largestPlace, Measured, Lies}
 use Rattle.sad.specs.Plane.{orgStart, refStart}
 use Rattle.sad.specs.Cost.{emptyRd, rdOf, sadAt, rdAt}
 use Rattle.sad.proofs.Sums.{Under, block-le, block-same}
@@ -52,11 +52,11 @@ in-range-most b cur ref v m hc hr hw h =
 
 -- a vector in range, measured from where the two blocks start
 module _ (b : Block) (v : MotionVector) (held : inRange (b .range) v ≡ true) (s d : ℕ) (org : s ≡ orgStart b) (ref : d ≡ refStart b v) where
-  pub starts-inside : (n m : ℕ) → Lies b n → Lies b m → (Inside n s (b .stride) (b .w) (b .h) × Inside m d (b .stride) (b .w) (b .h)) × ((b .w ≤ largestBlock) × (b .h ≤ largestBlock))
+  pub starts-inside : (n m : ℕ) → Lies b n → Lies b m → (Inside n s (b .stride) (b .w) (b .h) × Inside m d (b .stride) (b .w) (b .h)) × ((b .w ≤ largestBlock) × (b .h ≤ largestBlock) × (b .stride ≤ largestPlace))
   starts-inside n m lo lr =
       let at-org = subst (λ (s : ℕ). Inside n s (b .stride) (b .w) (b .h)) (sym org) (lo .org) in
       let at-ref = subst (λ (d : ℕ). Inside m d (b .stride) (b .w) (b .h)) (sym ref) (lr .ref v held) in
-      ((at-org, at-ref), (lo .measured .wide, lo .measured .high))
+      ((at-org, at-ref), (lo .measured .wide, lo .measured .high, lo .measured .stride))
 
   pub sad-from : (cur refs : List ℕ) {r : ℕ} → r ≡ sadBlock cur s refs d (b .stride) (b .w) (b .h) → r ≡ sadAt b cur refs v
   unfolding sadAt

@@ -4,3 +4,4 @@ pub mod Plane
 pub mod Cost
 -- what inner functions ask, and no reader need believe
 pub mod Asked
+pub mod Runs

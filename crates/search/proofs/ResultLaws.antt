@@ -4,7 +4,7 @@ use mathlib.Core.Bool.{Bool, true, false, cond}
 use Prim.Native.Nat.{ℕ, zero, suc, _+_, _-_, _^_, _≤_, _<_}
 use native.Mathlib.Numerals.{add-one}
 use native.Mathlib.Omega.{arith}
-use borrow.Author.Tests.{ltb-true, le-ltb}
+use borrow.Author.Tests.{ltb-true, ltb-false, le-ltb}
 use lib.Dec.{ltb}
 use Rattle.motion.specs.declared.vector.MotionVector.{MotionVector}
 use Rattle.sad.specs.declared.rd.MVCandidateRD.{MVCandidateRD}
@@ -12,7 +12,7 @@ use Rattle.sad.specs.Cost.{emptyRd}
 use Rattle.points.specs.declared.patterns.Pattern.{Pattern}
 use Rattle.points.specs.Patterns.{points, pointOf}
 use Rattle.search.specs.declared.result.MotionSearchResult.{MotionSearchResult}
-use Rattle.search.specs.Result.{CostOf, emptyResult, cheaper, tryOne, tryEach, tryPattern}
+use Rattle.search.specs.Result.{CostOf, emptyResult, measured, cheaper, tryOne, tryEach, tryPattern}
 
 -- a loop that has tried i candidates tries one more
 pub each-none : (rd : CostOf) (best : MotionSearchResult) (vs : ℕ → MotionVector) → tryEach rd best 0 vs ≡ best
@@ -36,6 +36,24 @@ pub one-most : (rd : CostOf) (best : MotionSearchResult) (v : MotionVector) → 
 unfolding tryOne cheaper emptyRd
 one-most rd best v e h =
     ap (λ (t : Bool). cond t (record { mv = v; rd = rd v }) best) (le-ltb (rd v .cost) (best .rd .cost) (omega (arith, ap (λ (r : MVCandidateRD). r .cost) e)))
+
+-- a candidate is taken exactly where the record gets cheaper by it
+module _ (rd : CostOf) (best : MotionSearchResult) (v : MotionVector) where
+  taken-by : (t : Bool) → ltb (rd v .cost) (best .rd .cost) ≡ t → cond t (measured rd v) best .rd .cost < best .rd .cost → (cond t (measured rd v) best ≡ measured rd v) × (rd v .cost < best .rd .cost)
+  taken-by true e h = (refl, h)
+  taken-by false e h = absurd (omega arith)
+
+  pub one-taken : tryOne rd best v .rd .cost < best .rd .cost → (tryOne rd best v ≡ measured rd v) × (rd v .cost < best .rd .cost)
+  unfolding tryOne cheaper
+  one-taken h = taken-by (ltb (rd v .cost) (best .rd .cost)) refl h
+
+  left-by : (t : Bool) → ltb (rd v .cost) (best .rd .cost) ≡ t → best .rd .cost ≤ cond t (measured rd v) best .rd .cost → best .rd .cost ≤ rd v .cost
+  left-by true e h = h
+  left-by false e h = ltb-false (rd v .cost) (best .rd .cost) e
+
+  pub one-left : best .rd .cost ≤ tryOne rd best v .rd .cost → best .rd .cost ≤ rd v .cost
+  unfolding tryOne cheaper
+  one-left h = left-by (ltb (rd v .cost) (best .rd .cost)) refl h
 
 -- What holds of the record of every vector that costs less than the most, holds of every record that is cheaper than a record
 -- of cost at most the most.

@@ -18,13 +18,17 @@ CostOf = MotionVector → MVCandidateRD
 unfoldable pub emptyResult : MotionSearchResult
 emptyResult = record { mv = zeroV; rd = emptyRd }
 
+-- a vector with its own SAD and cost
+abbrev pub measured : CostOf → MotionVector → MotionSearchResult
+measured rd v = record { mv = v; rd = rd v }
+
 -- "cheaper" means strictly less, so the first of equals stays
 unfoldable pub cheaper : MotionSearchResult → MotionSearchResult → MotionSearchResult
 cheaper best other = cond (ltb (other .rd .cost) (best .rd .cost)) other best
 
 -- one candidate against the best so far
 unfoldable pub tryOne : CostOf → MotionSearchResult → MotionVector → MotionSearchResult
-tryOne rd best v = cheaper best (record { mv = v; rd = rd v })
+tryOne rd best v = cheaper best (measured rd v)
 
 -- the first n of a row of candidates, in turn
 unfoldable pub tryEach : (rd : CostOf) (best : MotionSearchResult) (n : ℕ) (vs : ℕ → MotionVector) → MotionSearchResult

@@ -4,7 +4,6 @@ use motion::block::Block;
 use motion::vector::MotionVector;
 use points::patterns::Pattern;
 use points::patterns::hexagon_point;
-use sad::rd::get_fullpel_mv_rd;
 ghost use mathlib.Core.Path.{_≡_};
 ghost use mathlib.Core.Bool.{true};
 ghost use lib.ListN.{length};
@@ -33,14 +32,10 @@ fn try_index(
     requires { ⌜ (i < 6) × Near center ⌝ }
     ensures { λ r. ⌜ r ≡ tryIndex (rdAt b (now (cur .entry)) (now (reference .entry))) center cand i ⌝ }
 {
-    let mv = hexagon_point(center, i);
-    let rd = get_fullpel_mv_rd(b, cur, reference, mv);
-    let best = cand.best;
-    if rd.cost < best.rd.cost {
-        HexCand {
-            idx: i,
-            best: MotionSearchResult { mv, rd },
-        }
+    let before = cand.best;
+    let best = before.try_mv(b, cur, reference, hexagon_point(center, i));
+    if best.rd.cost < before.rd.cost {
+        HexCand { idx: i, best }
     } else {
         cand
     }

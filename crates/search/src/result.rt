@@ -7,6 +7,7 @@ use sad::plane::org_start;
 use sad::plane::ref_start;
 use sad::rd::MVCandidateRD;
 use sad::rd::compute_mv_rd;
+use sad::rd::get_fullpel_mv_rd;
 use sad::sad::get_sad;
 ghost use mathlib.Core.Path.{_≡_};
 ghost use lib.ListN.{length};
@@ -14,7 +15,7 @@ ghost use Rattle.motion.specs.Asked.{Near};
 ghost use Rattle.sad.specs.Asked.{Lies};
 ghost use Rattle.sad.specs.Cost.{rdAt};
 ghost use Rattle.points.specs.Asked.{Plain};
-ghost use Rattle.search.specs.Result.{emptyResult, cheaper, tryOne, tryPattern};
+ghost use Rattle.search.specs.Result.{emptyResult, measured, cheaper, tryOne, tryPattern};
 
 // The best vector so far, with its cost and sum of absolute differences.
 pub struct MotionSearchResult {
@@ -30,6 +31,17 @@ impl MotionSearchResult {
         MotionSearchResult {
             mv: MotionVector { row: 0, col: 0 },
             rd: MVCandidateRD::empty(),
+        }
+    }
+
+    // A vector with its own sum and cost.
+    pub fn measured(b: Block, cur: &[u8], reference: &[u8], mv: MotionVector) -> MotionSearchResult
+        requires { ⌜ Lies b (length (now cur)) × Lies b (length (now reference)) ⌝ }
+        ensures { λ r. ⌜ r ≡ measured (rdAt b (now (cur .entry)) (now (reference .entry))) mv ⌝ }
+    {
+        MotionSearchResult {
+            mv,
+            rd: get_fullpel_mv_rd(b, cur, reference, mv),
         }
     }
 

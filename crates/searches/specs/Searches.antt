@@ -8,7 +8,7 @@ use Rattle.motion.specs.Block.{weighed}
 use Rattle.refusal.specs.Refusals.{refuse, _then_, callRefusal}
 use Rattle.sad.specs.Cost.{rdAt}
 use Rattle.search.specs.declared.result.MotionSearchResult.{MotionSearchResult}
-use Rattle.search.specs.Result.{CostOf}
+use Rattle.search.specs.Result.{CostOf, measured}
 use Rattle.search.specs.Diamond.{diamond}
 use Rattle.search.specs.Hexagon.{hexagon}
 use Rattle.search.specs.MultiHexagon.{multiHexagon}
@@ -32,5 +32,5 @@ searchRefusal width height level bx by n m v =
 unfoldable pub searchAnswer : (method : Method) (width height level bx by : ℕ) (cur ref : List ℕ) (v : MotionVector) (weight : ℕ) → Found
 searchAnswer method width height level bx by cur ref v weight =
     let rd = rdAt (weighed (blockAt width height level 0 bx by) weight) cur ref in
-    let best = searchBy method rd (record { mv = v; rd = rd v }) in
+    let best = searchBy method rd (measured rd v) in
     answer (searchRefusal width height level bx by (length cur) (length ref) v) (foundOf (best .mv) (best .rd))

@@ -1,7 +1,6 @@
 use motion::block::Block;
 use motion::vector::MotionVector;
 use refusal::refusals::call_refusal;
-use sad::rd::get_fullpel_mv_rd;
 use search::diamond::fullpel_diamond_search;
 use search::hexagon::hexagon_search;
 use search::multi_hex::uneven_multi_hex_search;
@@ -64,7 +63,7 @@ pub(crate) fn single_search(
     if !b.range.holds(mv) {
         return Found::refuse(9);
     }
-    let rd = get_fullpel_mv_rd(b, cur, reference, mv);
-    let best = search_by(method, b, cur, reference, MotionSearchResult { mv, rd });
+    let start = MotionSearchResult::measured(b, cur, reference, mv);
+    let best = search_by(method, b, cur, reference, start);
     Found::done(best.mv, best.rd)
 }

@@ -1,47 +1,49 @@
--- `search::hexagon::try_index` meets its contract.
+-- `search::hexagon::try_index` meets its contract: the point is taken exactly where the record gets cheaper by it.
 -- Assumes nothing.
 use borrow.Author.Needs.{needs}
 use mathlib.Core.Path.{_≡_, sym, ap, _∙_}
 use native.Mathlib.Omega.{arith}
 use denote.Ref.{now}
-use Rattle.sad.specs.declared.rd.MVCandidateRD.{MVCandidateRD}
 use Rattle.sad.specs.Cost.{rdAt}
 use Rattle.points.specs.Patterns.{hexagonPoint}
+use Rattle.search.specs.declared.result.MotionSearchResult.{MotionSearchResult}
+use Rattle.search.specs.Result.{CostOf, tryOne}
+use Rattle.search.proofs.ResultLaws.{one-taken, one-left}
 use Rattle.search.proofs.HexagonLaws.{index-taken, index-left}
 use Rattle.search.proofs.hexagon.try_index.Statement.{statement}
 use Rattle.search.proofs.hexagon.try_index.Tie as tie
 
--- the point and its cost, as the definition names them
-module _ (c : tie.After-get-fullpel-mv-rd) where
-  point : c .before .hexagon-point .result ≡ hexagonPoint (c .before .before .before .before .args .center) (c .before .before .before .before .args .i)
-  point = c .before .hexagon-point .ensures
+abbrev cost : tie.Start → CostOf
+cost c = rdAt (c .args .b) (now (c .args .cur)) (now (c .args .reference))
 
-  costs : c .get-fullpel-mv-rd .result ≡ rdAt (c .before .before .before .before .args .b) (now (c .before .before .before .before .args .cur)) (now (c .before .before .before .before .args .reference)) (hexagonPoint (c .before .before .before .before .args .center) (c .before .before .before .before .args .i))
-  costs =
-      let a = c .before .before .before .before .args in
-      c .get-fullpel-mv-rd .ensures ∙ ap (rdAt (a .b) (now (a .cur)) (now (a .reference))) point
+-- what trying the point leaves, as the definition names it
+tried : (c : tie.After-try-mv) → let entry = c .before .before .before .before .before in c .try-mv .result ≡ tryOne (cost entry) (entry .args .cand .best) (hexagonPoint (entry .args .center) (entry .args .i))
+tried c =
+    let entry = c .before .before .before .before .before in
+    c .try-mv .ensures ∙ ap (tryOne (cost entry) (entry .args .cand .best)) (c .before .hexagon-point .ensures)
 
 hexagon-point-requires : tie.Need-hexagon-point-requires
 hexagon-point-requires c κs = search needs
 
-get-fullpel-mv-rd-requires : tie.Need-get-fullpel-mv-rd-requires
-get-fullpel-mv-rd-requires c κs = search needs
+try-mv-requires : tie.Need-try-mv-requires
+try-mv-requires c κs = search needs
 
 returns : tie.Need-returns
 returns c =
-    let at = c .before .before .before .before in
-    let a = at .before .before .before .before .args in
-    let same = ap (λ (r : MVCandidateRD). r .cost) (costs at) in
-    let moved = index-taken (rdAt (a .b) (now (a .cur)) (now (a .reference))) (a .center) (a .cand) (a .i) (omega (arith, same, c .if1 .taken)) in
-    sym (moved ∙ λ k. record { idx = a .i; best = record { mv = sym (point at) k; rd = sym (costs at) k } })
+    let at = c .before .before .before in
+    let entry = at .before .before .before .before .before in
+    let a = entry .args in
+    let same = ap (λ (m : MotionSearchResult). m .rd .cost) (tried at) in
+    let taken = one-taken (cost entry) (a .cand .best) (hexagonPoint (a .center) (a .i)) (omega (arith, c .if1 .taken)) in
+    sym (index-taken (cost entry) (a .center) (a .cand) (a .i) (taken .1) ∙ λ k. record { idx = a .i; best = sym (tried at ∙ taken .0) k })
 
 returns-2 : tie.Need-returns-2
 returns-2 c =
-    let at = c .before .before .before .before in
-    let a = at .before .before .before .before .args in
-    let same = ap (λ (r : MVCandidateRD). r .cost) (costs at) in
-    sym (index-left (rdAt (a .b) (now (a .cur)) (now (a .reference))) (a .center) (a .cand) (a .i) (omega (arith, same, c .if1 .left)))
+    let at = c .before .before .before in
+    let entry = at .before .before .before .before .before in
+    let a = entry .args in
+    let same = ap (λ (m : MotionSearchResult). m .rd .cost) (tried at) in
+    sym (index-left (cost entry) (a .center) (a .cand) (a .i) (one-left (cost entry) (a .cand .best) (hexagonPoint (a .center) (a .i)) (omega (arith, c .if1 .left))))
 
 pub try-index-spec : {M : Type 1} → statement M
-try-index-spec =
-    tie.close (tie.spec hexagon-point-requires get-fullpel-mv-rd-requires returns returns-2)
+try-index-spec = tie.close (tie.spec hexagon-point-requires try-mv-requires returns returns-2)

@@ -2,6 +2,7 @@
 -- Assumes nothing.
 use borrow.Author.Needs.{needs}
 use mathlib.Core.Path.{_≡_, sym, ap, subst, _∙_}
+use mathlib.Core.Bool.{true}
 use lib.ListN.{length}
 use denote.Ref.{now}
 use Rattle.ground.proofs.TestLaws.{passed, failed}
@@ -14,6 +15,7 @@ use Rattle.sad.specs.Asked.{Lies}
 use Rattle.sad.specs.Cost.{rdAt}
 use Rattle.sad.proofs.Contained.{weighed-lies}
 use Rattle.search.specs.declared.result.MotionSearchResult.{MotionSearchResult}
+use Rattle.search.specs.Result.{measured}
 use Rattle.single.specs.declared.found.Found.{Found}
 use Rattle.single.specs.Found.{refused, foundOf}
 use Rattle.single.specs.Call.{blockAt}
@@ -77,12 +79,14 @@ returns-2 c =
     let out = failed (c .before .before .holds .ensures ∙ ap (λ (b : Block). inRange (b .range) (a .mv)) (placed at)) (c .before .if2 .taken) in
     c .refuse2 .ensures ∙ sym (refuses-at 8 _ _ out) ∙ sym (refuses-later _ _ _ (sym (first .before .call-refusal .ensures) ∙ first .if1 .left))
 
-get-fullpel-mv-rd-requires : tie.Need-get-fullpel-mv-rd-requires
-get-fullpel-mv-rd-requires c κs = inside (c .before .before)
+measured-requires : tie.Need-measured-requires
+measured-requires c κs = inside (c .before .before)
 
 search-by-requires : tie.Need-search-by-requires
 search-by-requires c κs =
-    (inside (c .before .before .before), passed (c .before .before .holds .ensures) (c .before .if2 .left))
+    let held = c .before .before in
+    let in-range = passed (held .holds .ensures) (c .before .if2 .left) in
+    (inside (held .before), subst (λ (m : MotionSearchResult). inRange (held .before .weighed .result .range) (m .mv) ≡ true) (sym (c .measured .ensures)) in-range)
 
 done-requires : tie.Need-done-requires
 done-requires c κs = search needs
@@ -90,8 +94,8 @@ done-requires c κs = search needs
 returns-3 : tie.Need-returns-3
 unfolding searchAnswer searchRefusal
 returns-3 c =
-    let cost = c .before .before in
-    let held = cost .before .before in
+    let start = c .before .before in
+    let held = start .before .before in
     let at = held .before in
     let first = at .before .before in
     let a = first .before .before .before .before .args in
@@ -100,9 +104,9 @@ returns-3 c =
     let rd : Block → MotionVector → MVCandidateRD = λ b v. rdAt b cur ref v in
     let found : MotionSearchResult → Found = λ m. foundOf (m .mv) (m .rd) in
     let best = c .before .search-by .ensures
-    ∙ ap (λ (r : MVCandidateRD). searchBy (a .method) (rd (at .weighed .result)) (record { mv = a .mv; rd = r })) (cost .get-fullpel-mv-rd .ensures)
-    ∙ ap (λ (b : Block). searchBy (a .method) (rd b) (record { mv = a .mv; rd = rd b (a .mv) })) (placed at) in
-    let in-range = passed (held .holds .ensures ∙ ap (λ (b : Block). inRange (b .range) (a .mv)) (placed at)) (cost .before .if2 .left) in
+    ∙ ap (searchBy (a .method) (rd (at .weighed .result))) (start .measured .ensures)
+    ∙ ap (λ (b : Block). searchBy (a .method) (rd b) (measured (rd b) (a .mv))) (placed at) in
+    let in-range = passed (held .holds .ensures ∙ ap (λ (b : Block). inRange (b .range) (a .mv)) (placed at)) (start .before .if2 .left) in
     c .done .ensures ∙ ap found best ∙ sym (finds 9 _ _ in-range)
     ∙ sym (refuses-later _ _ _ (sym (first .before .call-refusal .ensures) ∙ first .if1 .left))
 
@@ -118,7 +122,7 @@ single-search-spec =
     holds-requires
     refuse-requires-2
     returns-2
-    get-fullpel-mv-rd-requires
+    measured-requires
     search-by-requires
     done-requires
     returns-3)
