@@ -2,26 +2,26 @@
 -- 16 bits, and the block is not empty. Assumes nothing.
 use mathlib.Core.Path.{_≡_, refl, sym, ap₂, subst₂}
 use mathlib.Core.Bool.{true, _&&_}
-use Prim.Native.Nat.{ℕ, zero, suc, _+_, _-_, _*_, _/_, _^_, _≤_, _<_, zero-le}
-use native.Mathlib.Nat.{le-trans, add-mul, mul-assoc, mul-le-mul-right, le-mul-of-pos-right, div-mul-le-self, le-div-iff-mul-le}
+use Prim.Native.Nat.{ℕ, zero, suc, _-_, _*_, _/_, _^_, _≤_, _<_, zero-le}
+use native.Mathlib.Nat.{mul-le-mul-right, le-div-iff-mul-le}
 use native.Mathlib.Omega.{arith}
-use borrow.Author.Tests.{leb-true, le-leb}
+use borrow.Author.Tests.{le-leb}
 use lib.IntN.{ℤ, pos, negsuc, negℤ, _*ℤ_}
 use lib.Pow.{pow-pos}
-use lib.Signed.{leZ, shrZ}
+use lib.Signed.{leZ}
 use mir.Syntax.{w16}
 use mir.Val.{SFits}
 use Rattle.ground.proofs.Bias.{mag-neg}
 use Rattle.motion.specs.declared.level.Level.{Level}
 use Rattle.motion.specs.declared.range.MvRange.{MvRange}
 use Rattle.motion.specs.declared.vector.MotionVector.{MotionVector}
-use Rattle.motion.specs.Limits.{cellSide, vectorLimit}
+use Rattle.motion.specs.Limits.{vectorLimit}
 use Rattle.motion.specs.Vector.{FitsV, zeroV, shlV}
 use Rattle.motion.specs.Frame.{Side, Starts, Sized, own4, own3, own2, refined3, refined2}
-use Rattle.motion.specs.Range.{mvMin, mvMax, clip, rangeOf, within, inRange}
+use Rattle.motion.specs.Range.{rangeOf, within, inRange}
 use Rattle.motion.specs.Block.{croppedTo, blockOf}
-use Rattle.motion.proofs.RangeLaws.{within-parts, in-range-parts, below-by}
-use Rattle.motion.proofs.AxisLaws.{fitting, start-inside, crop-most, low-is, high-is}
+use Rattle.motion.proofs.RangeLaws.{Between, in-range-parts}
+use Rattle.motion.proofs.AxisLaws.{fitting, lowAt, highAt, distances, down-clipped, up-clipped, down-back, in-range-by}
 
 -- two ends of 16 bits with zero between them
 pub record Ends (low high : ℤ) : Type 0 where
@@ -53,14 +53,12 @@ ends-by m n hm hn =
       high-fits = record { sfits = omega arith };
     }
 
--- a component between two ends whose multiples keep the vector limit
-times-fits : (m n k : ℕ) (z : ℤ) → m * k ≤ vectorLimit → n * k ≤ vectorLimit → within (negℤ (pos m)) z (pos n) ≡ true → SFits w16 (z *ℤ pos k)
-times-fits m n k (pos x) hm hn h =
-    let most = leb-true x n (within-parts (negℤ (pos m)) (pos x) (pos n) h .1) in
-    record { sfits = omega (arith, mul-le-mul-right k most) }
+-- a multiple of a component fits where those of both ends do
+times-fits : (m n k : ℕ) (z : ℤ) → m * k ≤ 2 ^ 15 → n * k < 2 ^ 15 → Between m n z → SFits w16 (z *ℤ pos k)
+times-fits m n k (pos x) hm hn h = record { sfits = omega (arith, mul-le-mul-right k h) }
 times-fits m n k (negsuc x) hm hn h =
-    let least = below-by m x (within-parts (negℤ (pos m)) (negsuc x) (pos n) h .0) in
-    record { sfits = omega (arith, mul-le-mul-right k least, mag-neg (suc x * k) {a = suc x * k} (omega arith)) }
+    let least = mul-le-mul-right k h in
+    record { sfits = omega (arith, mag-neg (suc x * k) {a = 2 ^ 15 - 1} (omega arith)) }
 
 size-least : {l : Level} {size : ℕ} → Sized l size → 4 ≤ size
 size-least own4 = omega arith
@@ -76,41 +74,17 @@ shift-most (suc (suc zero)) h = omega arith
 shift-most (suc (suc (suc s))) h = absurd (omega arith)
 
 -- one axis
-module _ {l : Level} {size side b : ℕ} (sized : Sized l size) (frame : Side side) (starts : Starts side size b) where
-  -- each end, times 2 ^ s, keeps the vector limit
-  low-most : 8 * (cellSide * b / 2 ^ (l .ssdec) + 16 / 2 ^ (l .ssdec) + croppedTo side size b / 2 ^ (l .ssdec)) * 2 ^ (l .ssdec) ≤ vectorLimit
-  low-most =
-      let k = 2 ^ (l .ssdec) in
-      let c = croppedTo side size b in
-      let fit = fitting sized in
-      let B = cellSide * b / k in
-      let T = 16 / k in
-      let C = c / k in
-      omega (arith, mul-assoc 8 (B + T + C) k, add-mul (B + T) C k, add-mul B T k, div-mul-le-self (cellSide * b) k, div-mul-le-self 16 k, div-mul-le-self c k, start-inside fit frame starts, frame .most, crop-most fit frame starts .0, fit .largest)
+pub axis-ends : {side size b : ℕ} (s : ℕ) → Starts side size b → Ends (lowAt side size b s) (highAt side size b s)
+axis-ends s starts =
+    let r = distances s starts in
+    subst₂ Ends (sym (r .low-is)) (sym (r .high-is)) (ends-by (r .down) (r .up) (down-clipped r) (up-clipped r))
 
-  high-most : 8 * (side / 2 ^ (l .ssdec) - cellSide * b / 2 ^ (l .ssdec) + 16 / 2 ^ (l .ssdec)) * 2 ^ (l .ssdec) ≤ vectorLimit
-  high-most =
-      let k = 2 ^ (l .ssdec) in
-      let B = cellSide * b / k in
-      let S = side / k in
-      let T = 16 / k in
-      omega (arith, mul-assoc 8 (S - B + T) k, add-mul (S - B) T k, mul-le-mul-right {m = S - B} {n = S} k (omega arith), div-mul-le-self side k, div-mul-le-self 16 k, frame .most)
-
-  axis-ends : Ends (shrZ (clip (mvMin b (croppedTo side size b))) (2 ^ (l .ssdec))) (shrZ (clip (mvMax (side / cellSide) b (croppedTo side size b))) (2 ^ (l .ssdec)))
-  axis-ends =
-      let k = 2 ^ (l .ssdec) in
-      let m = 8 * (cellSide * b / k + 16 / k + croppedTo side size b / k) in
-      let n = 8 * (side / k - cellSide * b / k + 16 / k) in
-      let fit = fitting sized in
-      subst₂ Ends (sym (low-is fit frame starts)) (sym (high-is fit frame starts))
-      (ends-by m n (le-trans (le-mul-of-pos-right m (pow-pos (l .ssdec))) low-most) (le-trans (le-mul-of-pos-right n (pow-pos (l .ssdec))) high-most))
-
-  axis-shl : (z : ℤ) → within (shrZ (clip (mvMin b (croppedTo side size b))) (2 ^ (l .ssdec))) z (shrZ (clip (mvMax (side / cellSide) b (croppedTo side size b))) (2 ^ (l .ssdec))) ≡ true → SFits w16 (z *ℤ pos (2 ^ (l .ssdec)))
+module _ {l : Level} {size side b : ℕ} (sized : Sized l size) (starts : Starts side size b) where
+  -- an end, shifted back, is at most 16,384 from zero, which 16 bits hold
+  axis-shl : (z : ℤ) → within (lowAt side size b (l .ssdec)) z (highAt side size b (l .ssdec)) ≡ true → SFits w16 (z *ℤ pos (2 ^ (l .ssdec)))
   axis-shl z h =
-      let k = 2 ^ (l .ssdec) in
-      let fit = fitting sized in
-      times-fits (8 * (cellSide * b / k + 16 / k + croppedTo side size b / k)) (8 * (side / k - cellSide * b / k + 16 / k)) k z low-most high-most
-      (subst₂ (λ (low high : ℤ). within low z high ≡ true) (low-is fit frame starts) (high-is fit frame starts) h)
+      let r = distances (l .ssdec) starts in
+      times-fits (r .down) (r .up) (2 ^ (l .ssdec)) z (omega (arith, down-back r (fitting sized .shift))) (omega (arith, r .up-most)) (in-range-by r z h)
 
   -- a cropped side is a cell or more, and 2 ^ s at most a cell
   axis-some : 0 < croppedTo side size b / 2 ^ (l .ssdec)
@@ -122,7 +96,7 @@ module _ {l : Level} {size side b : ℕ} (sized : Sized l size) (frame : Side si
 module _ {l : Level} {size W H bx by : ℕ} (sized : Sized l size) (wide : Side W) (high : Side H) (across : Starts W size bx) (down : Starts H size by) where
   pub straddles : Straddles (blockOf W H l size bx by .range)
   unfolding blockOf rangeOf
-  straddles = record { across = axis-ends sized wide across; along = axis-ends sized high down }
+  straddles = record { across = axis-ends (l .ssdec) across; along = axis-ends (l .ssdec) down }
 
   pub zero-in-range : inRange (blockOf W H l size bx by .range) zeroV ≡ true
   zero-in-range = zero-in straddles
@@ -132,13 +106,13 @@ module _ {l : Level} {size W H bx by : ℕ} (sized : Sized l size) (wide : Side 
   unfolding blockOf rangeOf shlV
   shl-fits v h =
       let both = in-range-parts (blockOf W H l size bx by .range) v h in
-      record { row = axis-shl sized high down (v .row) (both .1); col = axis-shl sized wide across (v .col) (both .0) }
+      record { row = axis-shl sized down (v .row) (both .1); col = axis-shl sized across (v .col) (both .0) }
 
   -- the block has at least one column and one row
   pub some-columns : 0 < blockOf W H l size bx by .w
   unfolding blockOf
-  some-columns = axis-some sized wide across
+  some-columns = axis-some sized across
 
   pub some-rows : 0 < blockOf W H l size bx by .h
   unfolding blockOf
-  some-rows = axis-some sized high down
+  some-rows = axis-some sized down

@@ -61,16 +61,22 @@ unfolding clip
 clip-down zero = refl
 clip-down (suc n) = down-by n (leb 16382 n) refl
 
-pub within-parts : (low x high : ℤ) → within low x high ≡ true → (leZ low x ≡ true) × (leZ x high ≡ true)
-unfolding within
-within-parts low x high h = both (leZ low x) (leZ x high) h
-
 -- a vector in range is so on both axes
 pub in-range-parts : (r : MvRange) (v : MotionVector) → inRange r v ≡ true → (within (r .«mvx_min») (v .col) (r .«mvx_max») ≡ true) × (within (r .«mvy_min») (v .row) (r .«mvy_max») ≡ true)
 unfolding inRange
 in-range-parts r v h = both (within (r .«mvx_min») (v .col) (r .«mvx_max»)) (within (r .«mvy_min») (v .row) (r .«mvy_max»)) h
 
--- a negative number no lower than −m
-pub below-by : (m n : ℕ) → leZ (negℤ (pos m)) (negsuc n) ≡ true → suc n ≤ m
-below-by zero n h = absurd (let z : _≡_ {A = ℕ} 0 1 = cc in omega arith)
-below-by (suc m) n h = omega (arith, leb-true n m h)
+-- at most m below zero and at most n above it
+abbrev pub Between : (m n : ℕ) → ℤ → Type 0
+Between m n (pos x) = x ≤ n
+Between m n (negsuc x) = suc x ≤ m
+
+not-below : (m n : ℕ) → leZ (negℤ (pos m)) (negsuc n) ≡ true → suc n ≤ m
+not-below zero n h = absurd (let z : _≡_ {A = ℕ} 0 1 = cc in omega arith)
+not-below (suc m) n h = omega (arith, leb-true n m h)
+
+-- what a number within two ends is, where zero lies between them
+pub between : (m n : ℕ) (z : ℤ) → within (negℤ (pos m)) z (pos n) ≡ true → Between m n z
+unfolding within
+between m n (pos x) h = leb-true x n (both (leZ (negℤ (pos m)) (pos x)) (leb x n) h .1)
+between m n (negsuc x) h = not-below m x (both (leZ (negℤ (pos m)) (negsuc x)) true h .0)

@@ -22,6 +22,13 @@ bias-eight : (z : ℤ) → 2 ^ 40 ≤ bias z + 2 ^ 30 → bias (pos 8 *ℤ z) + 
 bias-eight (pos n) h = omega arith
 bias-eight (negsuc n) h = omega (arith, bias-negpos (8 * suc n) (omega arith))
 
+-- zero lies between the ends
+pub around : {low high : ℤ} → Ends low high → (bias low ≤ 2 ^ 40) × (2 ^ 40 ≤ bias high)
+around {low} {high} ends = (
+  leb-true (bias low) (2 ^ 40) (sym (leZ-bias low (pos 0) (word-small (ends .low-fits)) (omega arith)) ∙ ends .down),
+  leb-true (2 ^ 40) (bias high) (sym (leZ-bias (pos 0) high (omega arith) (word-small (ends .high-fits))) ∙ ends .up),
+)
+
 -- one axis: an offset from min/8 to max/8 is, in eighths, from min to max, as zero lies between them
 module _ {min max stored : ℤ} (ends : Ends min max) (fits : SFits w16 stored) (s : ℕ) where
   axis-in : (k : ℕ) → k < refineSpan min max stored s .count → within min (spanAt (refineSpan min max stored s .lo) k) max ≡ true
@@ -34,11 +41,10 @@ module _ {min max stored : ℤ} (ends : Ends min max) (fits : SFits w16 stored) 
       let lofits = lo-fits min max stored s fn fx fits in
       let spanned = refine-spanned min max stored s fn fx fits k h in
       let small : Small (pos 8 *ℤ z) = word-small (span-fits lo k lofits spanned) in
-      let low = leb-true (bias min) (bias (pos 0)) (sym (leZ-bias min (pos 0) (word-small fn) (omega arith)) ∙ ends .down) in
-      let high = leb-true (bias (pos 0)) (bias max) (sym (leZ-bias (pos 0) max (omega arith) (word-small fx)) ∙ ends .up) in
+      let zero = around ends in
       let inside = between min max stored s fn fx fits k h in
-      let qn = bias-quot-down min low (word-small fn) in
-      let qx = bias-quot-up max high (word-small fx) in
+      let qn = bias-quot-down min (zero .0) (word-small fn) in
+      let qx = bias-quot-up max (zero .1) (word-small fx) in
       let sum = moved lo k lofits spanned in
       let eight = bias-eight z (omega (arith, eighth-bounds min fn .0)) in
       ap₂ _&&_ (leZ-bias min (pos 8 *ℤ z) (word-small fn) small ∙ le-leb (bias min) (bias (pos 8 *ℤ z)) (omega arith))

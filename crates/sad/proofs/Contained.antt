@@ -1,24 +1,22 @@
 -- The pads are enough: for every size, level and block, the block and each reference block of a vector in range lie inside
 -- stride times rows samples. Assumes nothing.
-use mathlib.Core.Path.{_≡_, refl, sym, ap, subst, subst₂, _∙_}
+use mathlib.Core.Path.{_≡_, refl, sym, ap, subst, _∙_}
 use mathlib.Core.Bool.{true}
 use Prim.Native.Nat.{ℕ, suc, _+_, _-_, _*_, _/_, _^_, _≤_}
 use native.Mathlib.Nat.{add-mul, mul-comm, mul-le-mul-right, div-le-self}
 use native.Mathlib.Omega.{arith}
-use borrow.Author.Tests.{leb-true}
-use lib.Dec.{T}
 use lib.IntN.{ℤ, pos, negsuc, negℤ, natAbs, _+ℤ_, +ℤ-assoc, +ℤ-comm}
-use lib.Signed.{shrZ, nonNeg}
+use lib.Signed.{nonNeg}
 use Rattle.motion.specs.declared.block.Block.{Block}
 use Rattle.motion.specs.declared.level.Level.{Level}
 use Rattle.motion.specs.declared.vector.MotionVector.{MotionVector}
 use Rattle.motion.specs.Limits.{cellSide, vectorLimit}
 use Rattle.motion.specs.Asked.{Near}
 use Rattle.motion.specs.Frame.{Side, Starts, Sized}
-use Rattle.motion.specs.Range.{mvMin, mvMax, clip, rangeOf, within, inRange}
+use Rattle.motion.specs.Range.{rangeOf, within, inRange}
 use Rattle.motion.specs.Block.{planeOf, croppedTo, blockOf, weighed}
-use Rattle.motion.proofs.RangeLaws.{pos-minus, within-parts, in-range-parts, below-by}
-use Rattle.motion.proofs.AxisLaws.{Fitting, fitting, start-inside, crop-most, room, inside, low-is, high-is}
+use Rattle.motion.proofs.RangeLaws.{pos-minus, Between, in-range-parts}
+use Rattle.motion.proofs.AxisLaws.{Fitting, fitting, start-inside, crop-most, room, inside, lowAt, highAt, distances, in-range-by, down-clipped, up-clipped, down-whole, up-whole}
 use Rattle.sad.specs.Asked.{Inside, Measured, Lies}
 use Rattle.sad.specs.Plane.{moved, orgStart, refStart}
 use Rattle.sad.proofs.Places.{sample-is}
@@ -29,9 +27,9 @@ pub record Moved (S C P : ℕ) (z : ℤ) : Type 0 where
   pub far : natAbs z + C ≤ S + 2 * P
 
 -- a component between two ends is no larger than they are
-between-ends : (m n k : ℕ) (z : ℤ) → m ≤ k → n ≤ k → within (negℤ (pos m)) z (pos n) ≡ true → natAbs z ≤ k
-between-ends m n k (pos x) hm hn h = omega (arith, leb-true x n (within-parts (negℤ (pos m)) (pos x) (pos n) h .1))
-between-ends m n k (negsuc x) hm hn h = omega (arith, below-by m x (within-parts (negℤ (pos m)) (negsuc x) (pos n) h .0))
+between-most : (m n k : ℕ) (z : ℤ) → m ≤ k → n ≤ k → Between m n z → natAbs z ≤ k
+between-most m n k (pos x) hm hn h = omega arith
+between-most m n k (negsuc x) hm hn h = omega arith
 
 up-to : (S C P n : ℕ) {z : ℤ} → z ≡ pos n → n + C ≤ S + 2 * P → Moved S C P z
 up-to S C P n e h =
@@ -44,14 +42,10 @@ back-by B q P h =
     ∙ sym (+ℤ-assoc (pos B) (pos P) (negℤ (pos q))) ∙ pos-minus (B + P) q h
 
 module _ (B S C T P : ℕ) (rim : T + C ≤ P) (fits : B + C ≤ S) where
-  pub moved-in : (z : ℤ) → within (negℤ (pos (8 * (B + T + C)))) z (pos (8 * (S - B + T))) ≡ true → Moved S C P (moved B z +ℤ pos P)
+  moved-in : (m n : ℕ) (z : ℤ) → m ≤ 8 * (B + T + C) → n ≤ 8 * (S - B + T) → Between m n z → Moved S C P (moved B z +ℤ pos P)
   unfolding moved
-  moved-in (pos n) h =
-      let most = within-parts (negℤ (pos (8 * (B + T + C)))) (pos n) (pos (8 * (S - B + T))) h .1 in
-      up-to S C P (B + n / 8 + P) refl (omega (arith, leb-true n (8 * (S - B + T)) most))
-  moved-in (negsuc n) h =
-      let least = below-by (8 * (B + T + C)) n (within-parts (negℤ (pos (8 * (B + T + C)))) (negsuc n) (pos (8 * (S - B + T))) h .0) in
-      up-to S C P (B + P - suc n / 8) (back-by B (suc n / 8) P (omega arith)) (omega arith)
+  moved-in m n (pos x) hm hn h = up-to S C P (B + x / 8 + P) refl (omega arith)
+  moved-in m n (negsuc x) hm hn h = up-to S C P (B + P - suc x / 8) (back-by B (suc x / 8) P (omega arith)) (omega arith)
 
 -- a block that starts at column X of row Y
 pub inside-by : (X Y stride rows w h n : ℕ) → X + w ≤ stride → Y + h ≤ rows → stride * rows ≤ n → Inside n (Y * stride + X) stride w h
@@ -64,27 +58,18 @@ module _ {l : Level} {size W H bx by : ℕ} (sized : Sized l size) (wide : Side 
   fit = fitting sized
 
   -- one axis: what a component in range does
-  axis : {side b : ℕ} → Side side → Starts side size b → (z : ℤ) → within (shrZ (clip (mvMin b (croppedTo side size b))) (2 ^ (l .ssdec))) z (shrZ (clip (mvMax (side / cellSide) b (croppedTo side size b))) (2 ^ (l .ssdec))) ≡ true → Moved (side / 2 ^ (l .ssdec)) (croppedTo side size b / 2 ^ (l .ssdec)) (l .pad) (moved (cellSide * b / 2 ^ (l .ssdec)) z +ℤ pos (l .pad))
+  axis : {side b : ℕ} → Side side → Starts side size b → (z : ℤ) → within (lowAt side size b (l .ssdec)) z (highAt side size b (l .ssdec)) ≡ true → Moved (side / 2 ^ (l .ssdec)) (croppedTo side size b / 2 ^ (l .ssdec)) (l .pad) (moved (cellSide * b / 2 ^ (l .ssdec)) z +ℤ pos (l .pad))
   axis {side} {b} frame starts z h =
       let k = 2 ^ (l .ssdec) in
-      moved-in (cellSide * b / k) (side / k) (croppedTo side size b / k) (16 / k) (l .pad) (room fit frame starts) (inside fit frame starts) z
-      (subst₂ (λ (low high : ℤ). within low z high ≡ true) (low-is fit frame starts) (high-is fit frame starts) h)
+      let r = distances (l .ssdec) starts in
+      moved-in (cellSide * b / k) (side / k) (croppedTo side size b / k) (16 / k) (l .pad) (room fit frame starts) (inside fit frame starts) (r .down) (r .up) z
+      (down-whole fit frame starts r) (up-whole fit frame starts r) (in-range-by r z h)
 
-  -- no end is farther than 8,832 from zero
-  axis-near : {side b : ℕ} → Side side → Starts side size b → (z : ℤ) → within (shrZ (clip (mvMin b (croppedTo side size b))) (2 ^ (l .ssdec))) z (shrZ (clip (mvMax (side / cellSide) b (croppedTo side size b))) (2 ^ (l .ssdec))) ≡ true → natAbs z ≤ vectorLimit
-  axis-near {side} {b} frame starts z h =
-      let k = 2 ^ (l .ssdec) in
-      let B = cellSide * b / k in
-      let S = side / k in
-      let C = croppedTo side size b / k in
-      let start = div-le-self (cellSide * b) k in
-      let whole = div-le-self side k in
-      let rim = div-le-self 16 k in
-      let crop = div-le-self (croppedTo side size b) k in
-      between-ends (8 * (B + 16 / k + C)) (8 * (S - B + 16 / k)) vectorLimit z
-      (omega (arith, start, rim, crop, start-inside fit frame starts, frame .most, crop-most fit frame starts .0, fit .largest))
-      (omega (arith, whole, rim, frame .most))
-      (subst₂ (λ (low high : ℤ). within low z high ≡ true) (low-is fit frame starts) (high-is fit frame starts) h)
+  -- and how large it is: no end is beyond the vector limit
+  axis-near : {side b : ℕ} → Starts side size b → (z : ℤ) → within (lowAt side size b (l .ssdec)) z (highAt side size b (l .ssdec)) ≡ true → natAbs z ≤ vectorLimit
+  axis-near starts z h =
+      let r = distances (l .ssdec) starts in
+      between-most (r .down) (r .up) vectorLimit z (down-clipped r) (up-clipped r) (in-range-by r z h)
 
   columns : (v : MotionVector) → inRange (blockOf W H l size bx by .range) v ≡ true → Moved (W / 2 ^ (l .ssdec)) (croppedTo W size bx / 2 ^ (l .ssdec)) (l .pad) (moved (cellSide * bx / 2 ^ (l .ssdec)) (v .col) +ℤ pos (l .pad))
   unfolding blockOf rangeOf
@@ -98,7 +83,7 @@ module _ {l : Level} {size W H bx by : ℕ} (sized : Sized l size) (wide : Side 
   unfolding blockOf rangeOf
   near v h =
       let both = in-range-parts (blockOf W H l size bx by .range) v h in
-      record { row = axis-near high down (v .row) (both .1); col = axis-near wide across (v .col) (both .0) }
+      record { row = axis-near down (v .row) (both .1); col = axis-near across (v .col) (both .0) }
 
   measured : Measured (blockOf W H l size bx by)
   unfolding blockOf planeOf
