@@ -12,13 +12,16 @@ use Rattle.ground.proofs.TestLaws.{tested, both, not-so}
 use Rattle.grid.specs.Grid.{Grid, room}
 use Rattle.refusal.proofs.RefusalLaws.{first-passed, passes, then-first, none-of}
 use Rattle.records.specs.Numbers.{OfBytes}
-use Rattle.gridfile.specs.Reading.{State, refusedAt, begun, headerEnd, headerDone, cellDone, next, taken, kept, ended}
+use Rattle.gridfile.specs.Reading.{State, start, refusedAt, begun, headerEnd, headerDone, cellDone, next, taken, kept, ended}
 use Rattle.gridfile.proofs.TakenLaws.{taken-append, kept-append, refused-stays, refused-keeps}
 use Rattle.gridfile.proofs.KeptLaws.{same-room, kept-lengths}
 use Rattle.held.proofs.HeldLaws.{Sound, sound-refused, with-part, by-test, next-by, bytes-taken, sound-taken}
 use Rattle.reader.specs.Calls.{Fits, tooShort, takenFrom, keptFrom, endedFrom}
 
--- each byte keeps a grid that fits: the header's end refuses any other with 13
+-- before the header any grid fits, and each byte keeps one that does: the header's end refuses any other with 13
+pub fits-start : (space : ℕ) → Fits space start
+fits-start space e wide = absurd (omega arith)
+
 pub fits-next : (space : ℕ) (s : State) (byte : ℕ) → Fits space s → Fits space (next space s byte)
 unfolding refusedAt begun headerDone headerEnd cellDone
 fits-next space s byte fits =

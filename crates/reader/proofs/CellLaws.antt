@@ -17,24 +17,22 @@ use Rattle.records.specs.Numbers.{OfBytes}
 use Rattle.gridfile.specs.Reading.{State, start, refusedAt, begun, headerEnd, headerDone, cellDone, next, taken, keep, kept}
 use Rattle.gridfile.proofs.PlaceLaws.{next-place}
 use Rattle.gridfile.proofs.KeptLaws.{same-room, cell-here, cell-other, kept-lengths}
-use Rattle.held.proofs.HeldLaws.{header-next, cell-next, Sound, next-by, bytes-next, sound-next}
+use Rattle.held.proofs.HeldLaws.{header-next, cell-next, Sound, sound-start, next-by, bytes-next, sound-next}
 use Rattle.reader.specs.Calls.{Fits}
-use Rattle.reader.proofs.CallLaws.{fits-next}
+use Rattle.reader.proofs.CallLaws.{fits-start, fits-next}
 
 -- where reading stands after a file's front: the record begun is its end, and the cells taken in hold their records
-pub record Read (space : ℕ) (front : List ℕ) (s : State) (g : Grid) : Type 0 where
+pub record Read (front : List ℕ) (s : State) (g : Grid) : Type 0 where
   pub none : s .columns ≡ 0 → s .cells ≡ 0
-  pub few : s .cells ≤ space
   pub header : s .code ≡ 0 → s .columns ≡ 0 → s .part ≡ front
   pub later : s .code ≡ 0 → 0 < s .columns → s .part ≡ drop (fileBytes (s .cells)) front
   pub there : 0 < s .columns → fileBytes (s .cells) ≤ length front
   pub inside : (i : ℕ) → i < s .cells → statsAt g i ≡ cellOf (slice (fileBytes i) (fileBytes (suc i)) front)
 
-pub read-start : (g : Grid) → Read (room g) [] start g
+read-start : (g : Grid) → Read [] start g
 read-start g =
     record {
       none = λ e. refl;
-      few = omega arith;
       header = λ z e. refl;
       later = λ z wide. absurd (omega arith);
       there = λ wide. absurd (omega arith);
@@ -46,11 +44,11 @@ slice-front : (xs ys : List ℕ) (f t : ℕ) → t ≤ length xs → slice f t (
 slice-front xs ys f t h = ap (drop f) (take-append-le t xs ys h)
 
 -- so the records of all cells are there
-pub read-there : {space : ℕ} {front : List ℕ} {s : State} {g : Grid} → Read space front s g → 0 < s .cells → fileBytes (s .cells) ≤ length front
+pub read-there : {front : List ℕ} {s : State} {g : Grid} → Read front s g → 0 < s .cells → fileBytes (s .cells) ≤ length front
 read-there {s = s} now some = ⊎-elim (λ z. absurd (omega (arith, now .none z))) (now .there) (eq-zero-or-pos (s .columns))
 
 -- one byte more
-module _ (space : ℕ) (front : List ℕ) (s : State) (byte : ℕ) (g : Grid) (ok : Sound s) (fits : Fits space s) (long : room g ≡ space) (now : Read space front s g) where
+module _ (space : ℕ) (front : List ℕ) (s : State) (byte : ℕ) (g : Grid) (ok : Sound s) (fits : Fits space s) (long : room g ≡ space) (now : Read front s g) where
   abbrev more : List ℕ
   more = front ++ byte ∷ []
 
@@ -59,7 +57,7 @@ module _ (space : ℕ) (front : List ℕ) (s : State) (byte : ℕ) (g : Grid) (o
 
   -- a state after the byte, and the grid that goes with it
   abbrev After : State → Type 0
-  After t = Read space more t (cond (ltb (s .cells) (t .cells)) (withCell (s .cells) (cellOf (s .part ++ byte ∷ [])) g) g)
+  After t = Read more t (cond (ltb (s .cells) (t .cells)) (withCell (s .cells) (cellOf (s .part ++ byte ∷ [])) g) g)
 
   older : (i : ℕ) → i < s .cells → statsAt g i ≡ cellOf (slice (fileBytes i) (fileBytes (suc i)) more)
   unfolding fileBytes
@@ -74,13 +72,13 @@ module _ (space : ℕ) (front : List ℕ) (s : State) (byte : ℕ) (g : Grid) (o
   stays : (s .code ≡ 0 → ⊥) → After s
   stays some =
       rw (le-ltb (s .cells) (s .cells) (omega arith))
-      (record { none = now .none; few = now .few; header = λ z. absurd (some z); later = λ z. absurd (some z); there = more-there; inside = older })
+      (record { none = now .none; header = λ z. absurd (some z); later = λ z. absurd (some z); there = more-there; inside = older })
 
   refused : (n : ℕ) → After (refusedAt s (suc n))
   unfolding refusedAt
   refused n =
       rw (le-ltb (s .cells) (s .cells) (omega arith))
-      (record { none = now .none; few = now .few; header = λ z. absurd (omega arith); later = λ z. absurd (omega arith); there = more-there; inside = older })
+      (record { none = now .none; header = λ z. absurd (omega arith); later = λ z. absurd (omega arith); there = more-there; inside = older })
 
   -- the record has one byte more
   begins : After (begun s (s .part ++ byte ∷ []))
@@ -89,7 +87,6 @@ module _ (space : ℕ) (front : List ℕ) (s : State) (byte : ℕ) (g : Grid) (o
       rw (le-ltb (s .cells) (s .cells) (omega arith))
       (record {
         none = now .none;
-        few = now .few;
         header = λ z first. ap (λ (l : List ℕ). l ++ byte ∷ []) (now .header z first);
         later = λ z wide. ap (λ (l : List ℕ). l ++ byte ∷ []) (now .later z wide) ∙ sym (drop-append-le (fileBytes (s .cells)) front (byte ∷ []) (now .there wide));
         there = more-there;
@@ -104,7 +101,6 @@ module _ (space : ℕ) (front : List ℕ) (s : State) (byte : ℕ) (g : Grid) (o
       rw (le-ltb (s .cells) 0 (omega arith))
       (record {
         none = λ z. refl;
-        few = omega arith;
         header = λ z none. absurd (omega arith);
         later = λ z wide. sym (drop-of-length-le more {i = headerBytes} (omega arith));
         there = λ wide. omega arith;
@@ -138,23 +134,26 @@ module _ (space : ℕ) (front : List ℕ) (s : State) (byte : ℕ) (g : Grid) (o
         rw (lt-ltb (s .cells) (suc (s .cells)) (omega arith))
         (record {
           none = λ z. absurd (omega arith);
-          few = omega (arith, fits e wide);
           header = λ z none. absurd (omega arith);
           later = λ z wide. sym (drop-of-length-le more {i = fileBytes (suc (s .cells))} (omega (arith, ten)));
           there = λ wide. omega (arith, ten);
           inside = cells-now;
         })
 
-  read-next : Read space more (next space s byte) (keep space s byte g)
+  read-next : Read more (next space s byte) (keep space s byte g)
   unfolding keep
   read-next = next-by After space s byte (λ e n. refused n) (λ e left. begins) stays header-ends cell-ends
 
 -- and all of them
-pub read-taken : (space : ℕ) (bytes front : List ℕ) (s : State) (g : Grid) → Sound s → OfBytes (s .part) → OfBytes bytes → Fits space s → room g ≡ space → Read space front s g → Read space (front ++ bytes) (taken space s bytes) (kept space s bytes g)
+read-taken : (space : ℕ) (bytes front : List ℕ) (s : State) (g : Grid) → Sound s → OfBytes (s .part) → OfBytes bytes → Fits space s → room g ≡ space → Read front s g → Read (front ++ bytes) (taken space s bytes) (kept space s bytes g)
 unfolding taken kept
-read-taken space [] front s g ok part ofBytes fits long now = subst (λ (l : List ℕ). Read space l s g) (sym (append-nil front)) now
+read-taken space [] front s g ok part ofBytes fits long now = subst (λ (l : List ℕ). Read l s g) (sym (append-nil front)) now
 read-taken space (b ∷ bytes) front s g ok part ofBytes fits long now =
     let t = next space s b in
     let h = keep space s b g in
-    subst (λ (l : List ℕ). Read space l (taken space t bytes) (kept space t bytes h)) (append-assoc front (b ∷ []) bytes)
+    subst (λ (l : List ℕ). Read l (taken space t bytes) (kept space t bytes h)) (append-assoc front (b ∷ []) bytes)
     (read-taken space bytes (front ++ b ∷ []) t h (sound-next space s b part (ofBytes 0) ok) (bytes-next space s b part (ofBytes 0)) (λ k. ofBytes (suc k)) (fits-next space s b fits) (same-room (kept-lengths space s (b ∷ []) g) ∙ long) (read-next space front s b g ok fits long now))
+
+-- a file from its first byte
+pub read-file : (file : List ℕ) (g : Grid) → OfBytes file → Read file (taken (room g) start file) (kept (room g) start file g)
+read-file file g ofBytes = read-taken (room g) file [] start g sound-start (λ k. omega arith) ofBytes (fits-start (room g)) refl (read-start g)

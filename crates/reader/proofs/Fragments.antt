@@ -1,5 +1,5 @@
 -- However a file is cut it is read as one fragment, a refusal stays, and which cells a file leaves. Assumes nothing.
-use mathlib.Core.Path.{_≡_, refl, sym, ap, subst₂, _∙_}
+use mathlib.Core.Path.{_≡_, sym, ap, subst₂, _∙_}
 use mathlib.Core.List.{List, [], _∷_, _++_, append-nil}
 use Prim.Native.Nat.{ℕ}
 use native.Mathlib.Omega.{arith}
@@ -12,10 +12,11 @@ use Rattle.gridfile.proofs.FileLaws.{read-grid}
 use Rattle.held.specs.declared.reader.Reader.{Reader}
 use Rattle.held.specs.Held.{readerOf, stateOf}
 use Rattle.held.proofs.HeldLaws.{Sound, sound-start, refused-back, back, sound-of, bytes-of, sound-taken}
-use Rattle.reader.specs.Calls.{Fits, takenFrom, keptFrom, endedFrom, newReader, takeReader, takeGrid, endReader}
+use Rattle.reader.specs.Calls.{takenFrom, keptFrom, endedFrom, newReader, takeReader, takeGrid, endReader}
 use Rattle.reader.specs.Fragments.{takeAll, gridAll, joined, AnyCuts, Stays, RefusalStays, AsOne, GoodOnes, WholeFile}
-use Rattle.reader.proofs.CallLaws.{fits-takes, fits-keeps, refused-takes, refused-leaves, takes-on, keeps-on, empty-from, bytes-from, sound-from, refused-end, empty-end, end-number, end-columns, end-rows}
-use Rattle.reader.proofs.CellLaws.{read-start, read-there, read-taken}
+use Rattle.reader.proofs.CallLaws.{fits-start, fits-takes, fits-keeps, refused-takes, refused-leaves, takes-on, keeps-on, empty-from, bytes-from, sound-from, refused-end, empty-end, end-number, end-columns, end-rows}
+use Rattle.reader.proofs.CellLaws.{read-file}
+use Rattle.reader.proofs.GoodLaws.{good-count}
 
 -- the calls after the first go on from what it gave back
 Cut : State → List ℕ → List (List ℕ) → Grid → Type 0
@@ -65,19 +66,16 @@ module _ (file : List ℕ) (g : Grid) (ofBytes : OfBytes file) where
   abbrev whole : State
   whole = taken (room g) start file
 
-  opens : Fits (room g) start
-  opens e wide = absurd (omega arith)
-
   whole-sound : Sound whole
   whole-sound = sound-taken (room g) start file (λ k. omega arith) ofBytes sound-start
 
   whole-taken : takeReader newReader file g ≡ readerOf whole
   unfolding newReader takeReader
-  whole-taken = ap (λ (s : State). readerOf (takenFrom s file g)) (back sound-start) ∙ ap readerOf (fits-takes start file g opens)
+  whole-taken = ap (λ (s : State). readerOf (takenFrom s file g)) (back sound-start) ∙ ap readerOf (fits-takes start file g (fits-start (room g)))
 
   whole-kept : takeGrid newReader file g ≡ kept (room g) start file g
   unfolding newReader takeGrid
-  whole-kept = ap (λ (s : State). keptFrom s file g) (back sound-start) ∙ fits-keeps start file g opens
+  whole-kept = ap (λ (s : State). keptFrom s file g) (back sound-start) ∙ fits-keeps start file g (fits-start (room g))
 
   whole-ended : endReader (takeReader newReader file g) ≡ readerOf (endedFrom whole)
   unfolding endReader
@@ -96,9 +94,8 @@ module _ (file : List ℕ) (g : Grid) (ofBytes : OfBytes file) where
   good-ones : GoodOnes file g (takeReader newReader file g .cells) (takeGrid newReader file g)
   unfolding readerOf
   good-ones =
-      let all = read-taken (room g) file [] start g sound-start (λ k. omega arith) ofBytes opens refl (read-start g) in
       subst₂ (λ (r : Reader) (h : Grid). GoodOnes file g (r .cells) h) (sym whole-taken) (sym whole-kept)
-      (record { some = all .few; there = read-there all; inside = all .inside; past = λ i past. kept-past (room g) start file g i past })
+      (record { number = good-count file g ofBytes; inside = read-file file g ofBytes .inside; past = λ i past. kept-past (room g) start file g i past })
 
 pub whole-file : WholeFile
 whole-file file g ofBytes = (as-one file g ofBytes, good-ones file g ofBytes)

@@ -5,4 +5,5 @@ pub mod TurnLaws
 pub mod WholeLaws
 pub mod AnswerLaws
 pub mod CellLaws
+pub mod GoodLaws
 pub mod Fragments

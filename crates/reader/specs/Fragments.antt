@@ -1,13 +1,15 @@
 -- However a file is cut, the cells, the final state and the refusal are those of one fragment.
 use mathlib.Core.Path.{_≡_}
+use mathlib.Core.Bool.{Bool, _&&_, cond}
 use mathlib.Core.List.{List, [], _∷_, _++_}
-use Prim.Native.Nat.{ℕ, suc, _≤_, _<_}
-use lib.ListN.{length}
+use Prim.Native.Nat.{ℕ, zero, suc, _+_, _*_, _≤_, _<_}
+use lib.Dec.{leb, eqb}
+use lib.ListN.{length, getD, take}
 use lib.Seq.{slice}
 use Rattle.grid.specs.Grid.{Grid, statsAt, room}
-use Rattle.records.specs.Records.{cellOf, fileBytes}
+use Rattle.records.specs.Records.{headerBytes, cellOf, fileBytes}
 use Rattle.records.specs.Numbers.{OfBytes}
-use Rattle.gridfile.specs.Reading.{readRefusal, readAnswer, readGrid}
+use Rattle.gridfile.specs.Reading.{start, marked, taken, readRefusal, readAnswer, readGrid}
 use Rattle.held.specs.declared.reader.Reader.{Reader}
 use Rattle.reader.specs.Calls.{newReader, takeReader, takeGrid, endReader}
 
@@ -47,10 +49,25 @@ pub record AsOne (file : List ℕ) (g : Grid) : Type 0 where
   pub rows : readRefusal file g ≡ 0 → endReader (takeReader newReader file g) .rows ≡ readAnswer file g .rows
   pub grid : readRefusal file g ≡ 0 → takeGrid newReader file g ≡ readGrid file g
 
--- and of any file: the cells taken in are those of the records that were counted, and no other cell is written
+-- the record of cell i is good: it is complete and starts with the mark
+unfoldable pub goodRecord : List ℕ → ℕ → Bool
+goodRecord file i =
+    leb (fileBytes (suc i)) (length file) && (marked 0 (getD file (fileBytes i) 0) && marked 1 (getD file (fileBytes i + 1) 0))
+
+-- of n cells from i on, those whose records are good, up to the first whose record is not
+unfoldable pub goodFrom : List ℕ → (i n : ℕ) → ℕ
+goodFrom file i zero = 0
+goodFrom file i (suc n) = cond (goodRecord file i) (suc (goodFrom file (suc i) n)) 0
+
+-- of all cells that the header says: none where it is refused, or cut so that it says none
+unfoldable pub goodCount : List ℕ → Grid → ℕ
+goodCount file g =
+    let header = taken (room g) start (take headerBytes file) in
+    cond (eqb (header .code) 0) (goodFrom file 0 (header .columns * header .rows)) 0
+
+-- and of any file: the count is that of its good records, the cells counted hold them, and no other cell is written
 pub record GoodOnes (file : List ℕ) (g : Grid) (count : ℕ) (h : Grid) : Type 0 where
-  pub some : count ≤ room g
-  pub there : 0 < count → fileBytes count ≤ length file
+  pub number : count ≡ goodCount file g
   pub inside : (i : ℕ) → i < count → statsAt h i ≡ cellOf (slice (fileBytes i) (fileBytes (suc i)) file)
   pub past : (i : ℕ) → count ≤ i → statsAt h i ≡ statsAt g i
 
