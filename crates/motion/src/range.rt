@@ -63,7 +63,7 @@ fn mv_max(in_b: usize, b: usize, ssdec: u32) -> i16
 }
 
 // The range of the block of blk_w by blk_h full-size pixels at cell (bx, by), at shift ssdec.
-pub fn get_mv_range(
+pub(crate) fn get_mv_range(
     w_in_b: usize,
     h_in_b: usize,
     bx: usize,

@@ -15,9 +15,9 @@ ghost use Prim.Native.Nat.{_+_, _*_, _-_, _/_, _≤_, _<_, min};
 ghost use lib.ListN.{length, take};
 ghost use Rattle.grid.specs.Grid.{room};
 ghost use Rattle.grid.specs.Lent.{lentGrid, entryGrid, exitGrid};
-ghost use Rattle.records.specs.Records.{cellBytes};
+ghost use Rattle.records.specs.Records.{cellBytes, mostCells};
 ghost use Rattle.gridfile.specs.Reading.{between, taken, keep, kept};
-ghost use Rattle.held.specs.Held.{mostCells, readerOf, stateOf, Settled};
+ghost use Rattle.held.specs.Held.{readerOf, stateOf, Settled};
 ghost use Rattle.reader.specs.Calls.{Fits};
 
 // The cell that a byte completes goes to the grid.
@@ -132,7 +132,7 @@ fn take_on(
 }
 
 // A fragment: the bytes that complete a record begun, then the rest.
-pub fn take_fragment(
+pub(crate) fn take_fragment(
     reader: Reader,
     space: usize,
     fragment: &[u8],

@@ -80,7 +80,7 @@ impl MotionSearchResult {
 }
 
 // Tries every point of a pattern round a centre that stays.
-pub fn try_pattern(
+pub(crate) fn try_pattern(
     b: Block,
     cur: &[u8],
     reference: &[u8],

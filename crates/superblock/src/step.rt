@@ -71,7 +71,7 @@ fn refined_count(width: usize, height: usize, level: usize, superblock: usize) -
 }
 
 // Whether no refinement of a step has an empty window.
-pub fn windows_ok(s: Step, rows: &[i16], cols: &[i16]) -> bool
+fn windows_ok(s: Step, rows: &[i16], cols: &[i16]) -> bool
     requires { ⌜ Side (s .frame .width) × Side (s .frame .height) × Leveled (s .level) × (s .superblock < superblocks (s .frame .width) (s .frame .height)) ⌝ }
     requires { ⌜ (cells (s .frame .width) (s .frame .height) ≤ length (now rows)) × (cells (s .frame .width) (s .frame .height) ≤ length (now cols)) ⌝ }
     ensures { λ r. ⌜ r ≡ windowsOk (s .frame .width) (s .frame .height) (s .level) (s .superblock) (now (rows .entry)) (now (cols .entry)) ⌝ }
