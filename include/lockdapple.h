@@ -1,15 +1,18 @@
 /* The entry points of Lockdapple, for C and C++ on x86-64.
  *
- * Link the static library that `tools/hostlib inter OUT.a` writes; for the two
- * functions of grid files, that of `gridfile`; for the three of a link's
- * reader, that of `reader`, which has the two as well; for the comparison at
+ * Link the static library that `tools/hostlib inter OUT.a` writes; for the
+ * three functions of grid files, that of `gridfile`; for the three of a link's
+ * reader, that of `reader`, which has the others as well; for the comparison at
  * the end, that of `compare`, likewise. A program can link any of them. No
  * function asks anything of its caller: whatever numbers and buffers come, it
  * ends, reads only what it was lent, and answers or refuses; a step, a run and
  * the reading of a file write to the grid that they are lent, the writing of a
  * file to the bytes that it is lent, and nowhere else. A slice is a pointer
- * and a count of elements; with a count of 0 the pointer may be anything but
- * null. A buffer that is written must not overlap another.
+ * and a count of elements; with a count of 0 the pointer may be anything, null
+ * too. Else it points to so many elements, aligned as C aligns their type. A
+ * buffer that is written must not overlap another. No function keeps anything
+ * between calls, so threads may call at the same time if none writes what
+ * another is lent.
  *
  * Frame: width and height are multiples of 8, from 8 to 1,024.
  * Level: 4, 3 or 2, with blocks of 64, 32 or 16 pixels, shift s = 2, 1 or 0,
@@ -217,6 +220,20 @@ struct lockdapple_written lockdapple_grid_write(size_t width, size_t height, con
                                                 const int16_t *cols, size_t cols_len, const uint32_t *sads,
                                                 size_t sads_len, uint8_t *file, size_t file_len);
 
+/* A refusal's number, the columns and rows of cells that a header says, and how
+ * many bytes the whole file has. */
+struct lockdapple_peek {
+    uint32_t code;
+    uint32_t columns;
+    uint32_t rows;
+    uint64_t bytes;
+};
+
+/* A look at the header of a file that starts with these bytes, four of which
+ * are enough, so that buffers can be made ready for it. Refuses with 10, 11
+ * where fewer than four come, and 12. */
+struct lockdapple_peek lockdapple_grid_peek(const uint8_t *file, size_t file_len);
+
 /* The grid of a file that all of `file` is; cells past the file's are never
  * written. Refuses from the front: the header with 10, 11, 12 and 13, then the
  * cells with 10 and 11: 10 where a wrong byte stands in a mark, 11 where bytes
@@ -229,7 +246,7 @@ struct lockdapple_shape lockdapple_grid_read(const uint8_t *file, size_t file_le
  * is lent the same grid:
  *
  *     struct lockdapple_reader reader = lockdapple_reader_new();
- *     while ((length = receive(link, fragment, sizeof fragment)) > 0)
+ *     while (reader.code == 0 && (length = receive(link, fragment, sizeof fragment)) >= 0)
  *         reader = lockdapple_reader_take(reader, fragment, length, rows, cells,
  *                                         cols, cells, sads, cells);
  *     reader = lockdapple_reader_end(reader);
@@ -237,6 +254,10 @@ struct lockdapple_shape lockdapple_grid_read(const uint8_t *file, size_t file_le
  *         fprintf(stderr, "refused %u after %u cells\n", reader.code, reader.cells);
  *     else
  *         printf("%u by %u cells\n", reader.columns, reader.rows);
+ *
+ * where receive gives a fragment's length, 0 for an empty one, and a negative
+ * number at the file's end. The last state has the shape that a comparison is
+ * given: its code, and its columns and rows, which only count where that is 0.
  */
 
 /* The state between two calls: the refusal so far (0 for none), the columns and
@@ -291,9 +312,9 @@ struct lockdapple_comparison {
     uint64_t first;
 };
 
-/* The cells that differ in row, col or SAD, from cell `from` on: asked again
- * from `first` + 1 on, it gives the next one. Refuses with the first shape's
- * number, then with the second's, then with 14, then with 13. */
+/* The cells that differ in row, col or SAD, from cell `from` on, counted to the
+ * last. Refuses with the first shape's number, then with the second's, then
+ * with 14, then with 13. */
 struct lockdapple_comparison lockdapple_grids_compare(struct lockdapple_shape first, const int16_t *first_rows,
                                                       size_t first_rows_len, const int16_t *first_cols,
                                                       size_t first_cols_len, const uint32_t *first_sads,
@@ -301,6 +322,24 @@ struct lockdapple_comparison lockdapple_grids_compare(struct lockdapple_shape fi
                                                       const int16_t *second_rows, size_t second_rows_len,
                                                       const int16_t *second_cols, size_t second_cols_len,
                                                       const uint32_t *second_sads, size_t second_sads_len, size_t from);
+
+/* A refusal's number, and the first cell that differs from a cell on; where none
+ * does, the number of cells. */
+struct lockdapple_place {
+    uint32_t code;
+    uint64_t place;
+};
+
+/* The next of these cells by itself: asked from 0 on, and then from each place
+ * + 1 on, it goes through all of them and looks at no cell twice. Refuses as
+ * lockdapple_grids_compare. */
+struct lockdapple_place lockdapple_grids_next(struct lockdapple_shape first, const int16_t *first_rows,
+                                              size_t first_rows_len, const int16_t *first_cols, size_t first_cols_len,
+                                              const uint32_t *first_sads, size_t first_sads_len,
+                                              struct lockdapple_shape second, const int16_t *second_rows,
+                                              size_t second_rows_len, const int16_t *second_cols,
+                                              size_t second_cols_len, const uint32_t *second_sads,
+                                              size_t second_sads_len, size_t from);
 
 #ifdef __cplusplus
 }

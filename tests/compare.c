@@ -31,6 +31,14 @@ static struct lockdapple_comparison compare(struct lockdapple_shape first, const
                                     g->sads, lent, from);
 }
 
+/* The next place by itself is what the comparison calls the first. */
+static int goes(struct lockdapple_shape first, const struct grid *f, struct lockdapple_shape second, const struct grid *g,
+                size_t from, uint32_t code, uint64_t place) {
+    struct lockdapple_place next = lockdapple_grids_next(first, f->rows, lent, f->cols, lent, f->sads, lent, second, g->rows,
+                                                         lent, g->cols, lent, g->sads, lent, from);
+    return next.code == code && next.place == place;
+}
+
 static int says(struct lockdapple_comparison c, uint32_t code, uint64_t count, uint64_t first) {
     return c.code == code && c.count == count && c.first == first;
 }
@@ -64,12 +72,16 @@ int main(void) {
     g.sads[3] = 1;
     expect(says(compare(first, &f, second, &g, 0), 0, 2, 1), "a cell whose SAD alone differs");
     expect(says(compare(first, &f, second, &g, 2), 0, 1, 3), "the next one");
+    expect(goes(first, &f, second, &g, 0, 0, 1), "the first by itself");
+    expect(goes(first, &f, second, &g, 2, 0, 3), "the next by itself");
+    expect(goes(first, &f, second, &g, 4, 0, 4), "none behind the last");
 
     expect(says(lockdapple_grids_compare(first, f.rows, 4, f.cols, 4, f.sads, 4, second, g.rows, 4, g.cols, 4, g.sads, 3, 0),
                 13, 0, 0),
            "a buffer too short");
     second = read_grid(wide_file, bytes, &g);
     expect(says(compare(first, &f, second, &g, 0), 14, 0, 0), "unequal shapes");
+    expect(goes(first, &f, second, &g, 0, 14, 0), "unequal shapes, the next by itself");
     wide_file[0] = 0;
     second = read_grid(wide_file, bytes, &g);
     expect(says(compare(first, &f, second, &g, 0), 10, 0, 0), "the second file refused");

@@ -3,7 +3,7 @@ use mathlib.Core.Path.{_≡_, sym, ap, ap₂, _∙_}
 use Prim.Native.Nat.{ℕ, _*_, _-_, _≤_, _<_, _^_}
 use native.Mathlib.Nat.{mul-le-mul}
 use native.Mathlib.Omega.{arith}
-use borrow.Author.Tests.{leb-true, eq-eqb}
+use borrow.Author.Tests.{leb-true, eq-eqb, ne-eqb}
 use lib.Dec.{leb}
 use lib.ListN.{length, getD}
 use Rattle.grid.specs.Grid.{Grid, room}
@@ -11,7 +11,7 @@ use Rattle.refusal.specs.Refusals.{refuse, _then_}
 use Rattle.refusal.proofs.RefusalLaws.{none-of, passes}
 use Rattle.gridfile.specs.declared.read.Shape.{Shape}
 use Rattle.compare.specs.Differ.{differing}
-use Rattle.compare.specs.Answer.{compareRefusal, comparisonOf, compareAnswer}
+use Rattle.compare.specs.Answer.{compareRefusal, comparisonOf, compareAnswer, nextAnswer}
 use Rattle.compare.proofs.DifferLaws.{from-first}
 
 -- columns times rows is a number of 64 bits
@@ -43,3 +43,12 @@ module _ (first : Shape) (f : Grid) (second : Shape) (g : Grid) (from : ℕ) whe
       let places = differing f g from cells in
       let count-is = h ∙ ap (λ (n : ℕ). length (differing f g n cells)) e ∙ ap length (from-first f g cells from) in
       ap₂ (comparisonOf 0) count-is e ∙ ap (λ (n : ℕ). comparisonOf n (length places) (getD places 0 cells)) (sym none)
+
+  -- the first place by itself, refused or not
+  pub refused-next : {number : ℕ} → number ≡ compareRefusal first (room f) second (room g) → (number ≡ 0 → ⊥) → record { code = number; place = 0 } ≡ nextAnswer first f second g from
+  unfolding nextAnswer compareAnswer comparisonOf
+  refused-next e some = rw (← e, ne-eqb _ 0 some)
+
+  pub found-next : {place : ℕ} → compareRefusal first (room f) second (room g) ≡ 0 → place ≡ getD (differing f g from (first .columns * first .rows)) 0 (first .columns * first .rows) → record { code = 0; place = place } ≡ nextAnswer first f second g from
+  unfolding nextAnswer compareAnswer comparisonOf
+  found-next none e = rw (none, ← e)

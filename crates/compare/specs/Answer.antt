@@ -7,6 +7,7 @@ use Rattle.grid.specs.Grid.{Grid, room}
 use Rattle.refusal.specs.Refusals.{refuse, _then_}
 use Rattle.gridfile.specs.declared.read.Shape.{Shape}
 use Rattle.compare.specs.declared.calls.Comparison.{Comparison}
+use Rattle.compare.specs.declared.calls.Place.{Place}
 use Rattle.compare.specs.Differ.{differing}
 
 -- the first file's refusal, then the second's; 14 unequal shapes; 13 a lent buffer too short, the first grid's or the second's
@@ -29,3 +30,9 @@ compareAnswer first f second g from =
     let cells = first .columns * first .rows in
     let places = differing f g from cells in
     comparisonOf (compareRefusal first (room f) second (room g)) (length places) (getD places 0 cells)
+
+-- the refusal, and the first of these places alone
+unfoldable pub nextAnswer : (first : Shape) (f : Grid) (second : Shape) (g : Grid) (from : ℕ) → Place
+nextAnswer first f second g from =
+    let whole = compareAnswer first f second g from in
+    record { code = whole .code; place = whole .first }

@@ -66,7 +66,7 @@ pub fn count_differing(
 }
 
 // The first of them, or `to` where there is none.
-pub fn next_differing(
+pub(crate) fn next_differing(
     first_rows: &[i16],
     first_cols: &[i16],
     first_sads: &[u32],

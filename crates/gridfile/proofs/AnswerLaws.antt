@@ -33,13 +33,10 @@ module _ (file : List ℕ) (g : Grid) where
   unfolding readRefusal
   header-number some = head-refused (room g) file some
 
--- a header that nothing is wrong with
-module _ (file : List ℕ) (g : Grid) (fine : headNumber (room g) file ≡ 0) where
-  abbrev head : Opened (room g) file
-  head = opened (room g) file fine
-
-  abbrev pub at-cells : State
-  at-cells = between (getD file 2 0 + 1) (getD file 3 0 + 1) 0
+-- a header that nothing is wrong with, with room for so many cells
+module _ (file : List ℕ) (space : ℕ) (fine : headNumber space file ≡ 0) where
+  abbrev head : Opened space file
+  head = opened space file fine
 
   pub header-there : headerBytes ≤ length file
   header-there = omega (arith, ap length (head .parts))
@@ -50,17 +47,22 @@ module _ (file : List ℕ) (g : Grid) (fine : headNumber (room g) file ≡ 0) wh
   rows-here : head .d ≡ getD file 3 0
   rows-here = sym (ap (λ (l : List ℕ). getD l 3 0) (head .parts))
 
-  cells-here : between (head .c + 1) (head .d + 1) 0 ≡ at-cells
-  cells-here = ap₂ (λ (c d : ℕ). between (c + 1) (d + 1) 0) columns-here rows-here
+  pub header-fits : (getD file 2 0 + 1) * (getD file 3 0 + 1) ≤ space
+  header-fits = subst (λ (n : ℕ). n ≤ space) (ap₂ (λ (c d : ℕ). (c + 1) * (d + 1)) columns-here rows-here) (head .fits)
 
-  tail-here : head .tail ≡ drop headerBytes file
-  tail-here = sym (ap (drop headerBytes) (head .parts))
+-- and the cells behind it, where it is a lent grid that has the room
+module _ (file : List ℕ) (g : Grid) (fine : headNumber (room g) file ≡ 0) where
+  abbrev pub at-cells : State
+  at-cells = between (getD file 2 0 + 1) (getD file 3 0 + 1) 0
 
-  pub header-fits : (getD file 2 0 + 1) * (getD file 3 0 + 1) ≤ room g
-  header-fits = subst (λ (n : ℕ). n ≤ room g) (ap₂ (λ (c d : ℕ). (c + 1) * (d + 1)) columns-here rows-here) (head .fits)
+  cells-here : between (head file (room g) fine .c + 1) (head file (room g) fine .d + 1) 0 ≡ at-cells
+  cells-here = ap₂ (λ (c d : ℕ). between (c + 1) (d + 1) 0) (columns-here file (room g) fine) (rows-here file (room g) fine)
+
+  tail-here : head file (room g) fine .tail ≡ drop headerBytes file
+  tail-here = sym (ap (drop headerBytes) (head file (room g) fine .parts))
 
   header-taken : taken (room g) start file ≡ taken (room g) at-cells (drop headerBytes file)
-  header-taken = head .on ∙ ap₂ (taken (room g)) cells-here tail-here
+  header-taken = head file (room g) fine .on ∙ ap₂ (taken (room g)) cells-here tail-here
 
   pub cells-number : readRefusal file g ≡ ended (taken 0 at-cells (drop headerBytes file))
   unfolding readRefusal
@@ -76,6 +78,6 @@ module _ (file : List ℕ) (g : Grid) (fine : headNumber (room g) file ≡ 0) wh
     pub done-grid : readGrid file g ≡ kept 0 at-cells (drop headerBytes file) g
     unfolding readGrid
     done-grid =
-        ap (λ (n : ℕ). cond (eqb n 0) (kept (room g) start file g) g) (cells-number ∙ none) ∙ head .keeps g
+        ap (λ (n : ℕ). cond (eqb n 0) (kept (room g) start file g) g) (cells-number ∙ none) ∙ head file (room g) fine .keeps g
         ∙ ap₂ (λ (s : State) (bytes : List ℕ). kept (room g) s bytes g) cells-here tail-here
         ∙ kept-free (room g) 0 at-cells (drop headerBytes file) g (omega arith)

@@ -101,7 +101,7 @@ module _ (file : List ℕ) (columns rows : ℕ) (g : Grid) (it : FileOf file col
 
 -- a file that is read with 0
 module _ (file : List ℕ) (g : Grid) (it : ReadFile file g) where
-  same-answer : readAnswer file g ≡ shapeOf 0 (it .columns) (it .rows)
+  pub same-answer : readAnswer file g ≡ shapeOf 0 (it .columns) (it .rows)
   same-answer =
       subst (λ (l : List ℕ). readAnswer l g ≡ shapeOf 0 (it .columns) (it .rows)) (it .bytes) (file-answer (it .columns) (it .rows) (readGrid file g) g (it .shaped))
 

@@ -1,4 +1,4 @@
--- Laws that several proofs cite, and the theorems of specs/Keeps.antt.
+-- Laws that several proofs cite, and the theorems of specs/Keeps.antt and Peek.antt.
 pub mod WriteLaws
 pub mod TakenLaws
 pub mod AcceptedLaws
@@ -12,4 +12,5 @@ pub mod AnswerLaws
 pub mod FileLaws
 pub mod ReadLaws
 pub mod Keeps
+pub mod Peek
 pub mod Examples

@@ -1,3 +1,4 @@
+use crate::read::Peek;
 use crate::read::Shape;
 use crate::read::cells_refusal;
 use crate::read::get_cells;
@@ -9,10 +10,12 @@ use grid::cells::room;
 use motion::limits::CELL_SIDE;
 use records::limits::CELL_BYTES;
 use records::limits::HEADER_BYTES;
+use records::limits::MOST_FILE_CELLS;
 use records::parts::put_header;
 ghost use mathlib.Core.Path.{_≡_};
 ghost use Rattle.grid.specs.Lent.{entryGrid, exitGrid};
 ghost use Rattle.gridfile.specs.Writing.{writeAnswer, writtenFile};
+ghost use Rattle.gridfile.specs.Peek.{peekAnswer};
 ghost use Rattle.gridfile.specs.Reading.{readAnswer, readGrid};
 
 #[no_mangle]
@@ -78,5 +81,29 @@ pub extern "C" fn lockdapple_grid_read(
         code: 0,
         columns: columns as u32,
         rows: down as u32,
+    }
+}
+
+// The first four bytes of a file are enough.
+#[no_mangle]
+pub extern "C" fn lockdapple_grid_peek(file: &[u8]) -> Peek
+    ensures { λ r. ⌜ r ≡ peekAnswer (now (file .entry)) ⌝ }
+{
+    let code = header_refusal(file, MOST_FILE_CELLS);
+    if code != 0 {
+        return Peek {
+            code,
+            columns: 0,
+            rows: 0,
+            bytes: 0,
+        };
+    }
+    let columns = file[2] as usize + 1;
+    let down = file[3] as usize + 1;
+    Peek {
+        code: 0,
+        columns: columns as u32,
+        rows: down as u32,
+        bytes: (HEADER_BYTES + CELL_BYTES * (columns * down)) as u64,
     }
 }

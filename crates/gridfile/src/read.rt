@@ -25,6 +25,15 @@ pub struct Shape {
     pub rows: u32,
 }
 
+// 0 or a refusal, columns and rows of cells, and how many bytes the whole file has.
+#[repr(C)]
+pub struct Peek {
+    pub code: u32,
+    pub columns: u32,
+    pub rows: u32,
+    pub bytes: u64,
+}
+
 // A mark of which bytes may be missing.
 fn mark_refusal(file: &[u8], at: usize) -> u32
     requires { ⌜ at ≤ length (now file) ⌝ }

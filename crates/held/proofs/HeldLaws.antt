@@ -12,12 +12,12 @@ use lib.Dec.{leb, ltb, eqb}
 use lib.ListN.{length, getD, take, drop, length-take, length-append, take-append-drop}
 use lib.Seq.{take-at}
 use Rattle.ground.proofs.TestLaws.{tested, both}
-use Rattle.records.specs.Records.{headerBytes, cellBytes}
+use Rattle.records.specs.Records.{headerBytes, cellBytes, mostCells}
 use Rattle.records.specs.Numbers.{OfBytes}
 use Rattle.records.proofs.NumberLaws.{bytes-front}
 use Rattle.gridfile.specs.Reading.{State, start, refusedAt, begun, marked, headerEnd, headerDone, cellDone, recordByte, next, taken}
 use Rattle.held.specs.declared.reader.Reader.{Reader}
-use Rattle.held.specs.Held.{mostCells, readerOf, recordBytes, shaped, stateOf}
+use Rattle.held.specs.Held.{readerOf, recordBytes, shaped, stateOf}
 
 -- the record that comes next: the header's four bytes, or a cell's ten
 module _ (columns : ℕ) where

@@ -11,8 +11,9 @@ use lib.ListN.{length, take, replicate, length-take}
 use lib.Seq.{length-take-le}
 use Rattle.ground.proofs.TestLaws.{tested, both}
 use Rattle.gridfile.specs.Reading.{between, begun, refusedAt}
+use Rattle.records.specs.Records.{mostCells}
 use Rattle.held.specs.declared.reader.Reader.{Reader}
-use Rattle.held.specs.Held.{plain, partBytes, readerOf, recordBytes, mostCells, shaped, stateOf, Settled}
+use Rattle.held.specs.Held.{plain, partBytes, readerOf, recordBytes, shaped, stateOf, Settled}
 use Rattle.held.proofs.HeldLaws.{some-bytes}
 
 -- fewer bytes are held than the record has

@@ -5,7 +5,7 @@ use mathlib.Core.Bool.{Bool, _&&_, cond}
 use mathlib.Core.List.{_++_, []}
 use lib.Dec.{leb, eqb}
 use lib.ListN.{length, take, replicate}
-use Rattle.records.specs.Records.{headerBytes, cellBytes}
+use Rattle.records.specs.Records.{headerBytes, cellBytes, mostCells}
 use Rattle.gridfile.specs.Reading.{State, begun, refusedAt}
 use Rattle.held.specs.declared.reader.Reader.{Reader}
 
@@ -35,9 +35,6 @@ unfoldable pub recordBytes : ℕ → ℕ
 recordBytes columns = cond (eqb columns 0) headerBytes cellBytes
 
 -- columns and rows as a header can say them
-abbrev pub mostCells : ℕ
-mostCells = 256
-
 unfoldable pub shaped : ℕ → ℕ → Bool
 shaped columns rows = leb columns mostCells && leb rows mostCells
 

@@ -6,7 +6,8 @@ ghost use mathlib.Core.Path.{_≡_};
 ghost use mathlib.Core.List.{[], _∷_, _++_};
 ghost use Prim.Native.Nat.{_+_, _≤_, _<_};
 ghost use Rattle.gridfile.specs.Reading.{begun, headerEnd, marked, next};
-ghost use Rattle.held.specs.Held.{mostCells, recordBytes, readerOf, stateOf, Settled};
+ghost use Rattle.records.specs.Records.{mostCells};
+ghost use Rattle.held.specs.Held.{recordBytes, readerOf, stateOf, Settled};
 
 // The header's last byte has come: 12 and 13, or the cells to come.
 fn header_end(room: usize, columns: u32, rows: u32) -> Reader

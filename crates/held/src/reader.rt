@@ -8,8 +8,8 @@ ghost use mathlib.Core.List.{_++_};
 ghost use Prim.Native.Nat.{_*_, _-_, _%_, _≤_};
 ghost use lib.Dec.{eqb, ltb};
 ghost use lib.ListN.{take, replicate};
-ghost use Rattle.records.specs.Records.{cellBytes};
-ghost use Rattle.held.specs.Held.{mostCells, plain, partBytes, readerOf, recordBytes, stateOf};
+ghost use Rattle.records.specs.Records.{cellBytes, mostCells};
+ghost use Rattle.held.specs.Held.{plain, partBytes, readerOf, recordBytes, stateOf};
 
 // The state between two calls: the refusal so far, what the header said, how many cells were taken in, and the bytes of the
 // record that comes next.

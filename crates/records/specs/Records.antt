@@ -16,6 +16,10 @@ mark = 0x4C ∷ 0x47 ∷ []
 abbrev pub headerBytes : ℕ
 headerBytes = 4
 
+-- so it says at most so many of each
+abbrev pub mostCells : ℕ
+mostCells = 256
+
 unfoldable pub headerRecord : ℕ → ℕ → List ℕ
 headerRecord columns rows = mark ++ (columns - 1) ∷ (rows - 1) ∷ []
 

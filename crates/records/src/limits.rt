@@ -14,3 +14,6 @@ pub const CELL_BYTES: usize = 10;
 
 // A byte less one says how many columns or rows there are.
 pub const MOST_CELLS: u32 = 256;
+
+// So many cells a file has at the most.
+pub const MOST_FILE_CELLS: usize = 65_536;

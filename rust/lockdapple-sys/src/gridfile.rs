@@ -2,7 +2,7 @@
 
 use crate::{
     given::{Grid, GridMut},
-    records::{Shape, Written},
+    records::{Peek, Shape, Written},
 };
 
 unsafe extern "C" {
@@ -29,6 +29,8 @@ unsafe extern "C" {
         sads: *mut u32,
         sads_len: usize,
     ) -> Shape;
+
+    fn lockdapple_grid_peek(peek: *mut Peek, file: *const u8, file_len: usize);
 }
 
 pub fn grid_write(width: usize, height: usize, grid: Grid<'_>, file: &mut [u8]) -> Written {
@@ -63,4 +65,12 @@ pub fn grid_read(file: &[u8], grid: GridMut<'_>) -> Shape {
             grid.sads.len(),
         )
     }
+}
+
+/// The first four bytes of a file are enough.
+pub fn grid_peek(file: &[u8]) -> Peek {
+    let mut peek = Peek::UNWRITTEN;
+    // SAFETY: `peek` can be written, and the bytes are lent with their own length.
+    unsafe { lockdapple_grid_peek(&mut peek, file.as_ptr(), file.len()) };
+    peek
 }

@@ -25,12 +25,14 @@ mod records;
 #[cfg(feature = "inter")]
 pub use block::{candidate, diamond, hexagon, multi_hexagon, predictors, range, rate, refine};
 #[cfg(feature = "compare")]
-pub use compare::grids_compare;
+pub use compare::{grids_compare, grids_next};
 #[cfg(feature = "inter")]
 pub use frame::{frame_run, superblock_step};
 pub use given::{Block, Grid, GridMut, Planes, Previous, Step};
 #[cfg(feature = "gridfile")]
-pub use gridfile::{grid_read, grid_write};
+pub use gridfile::{grid_peek, grid_read, grid_write};
 #[cfg(feature = "reader")]
 pub use reader::{reader_end, reader_new, reader_take};
-pub use records::{Comparison, Ends, Found, Reader, Shape, Subsets, Vector, Written};
+pub use records::{
+    Comparison, Ends, Found, Peek, Place, Reader, Shape, Subsets, Vector, Written,
+};

@@ -60,6 +60,16 @@ pub struct Shape {
     pub rows: u32,
 }
 
+/// Columns and rows of cells, and how many bytes the whole file has.
+#[repr(C)]
+#[derive(Clone, Copy, Debug, PartialEq, Eq)]
+pub struct Peek {
+    pub code: u32,
+    pub columns: u32,
+    pub rows: u32,
+    pub bytes: u64,
+}
+
 /// The state between two fragments: 40 bytes, each of them in a field.
 #[repr(C)]
 #[derive(Clone, Copy, Debug, PartialEq, Eq)]
@@ -80,6 +90,14 @@ pub struct Comparison {
     pub code: u32,
     pub count: u64,
     pub first: u64,
+}
+
+/// The first cell that differs.
+#[repr(C)]
+#[derive(Clone, Copy, Debug, PartialEq, Eq)]
+pub struct Place {
+    pub code: u32,
+    pub place: u64,
 }
 
 // What an answer that is written through a pointer holds before. No field is 0, so that
@@ -108,6 +126,15 @@ impl Subsets {
             b: [mv; 5],
             c: [mv; 5],
         }
+    };
+}
+
+impl Peek {
+    pub const UNWRITTEN: Peek = Peek {
+        code: 99,
+        columns: 99,
+        rows: 99,
+        bytes: 99,
     };
 }
 

@@ -5,7 +5,7 @@ use lockdapple_sys::Reader;
 
 use crate::{
     grid::Grid,
-    lent::{Lent, MOST_BYTES, MOST_CELLS},
+    lent::{Cells, Lent, MOST_BYTES, MOST_CELLS},
 };
 
 /// One call. A case is its numbers and nothing else, so any case can be replayed.
@@ -41,6 +41,8 @@ pub struct Outcome {
     pub kept: usize,
     /// A file in fragments was read whole as well.
     pub whole: bool,
+    /// Two grids were compared, and so many places differed.
+    pub compared: Option<usize>,
     /// Where it is one call with a state that no call need have given back.
     pub given: Option<Given>,
 }
@@ -56,6 +58,7 @@ impl Outcome {
             calls: 0,
             kept: 0,
             whole: false,
+            compared: None,
             given: None,
         }
     }
@@ -73,11 +76,16 @@ impl Outcome {
         }
     }
 
-    /// Adds what the four buffers hold and should not.
+    /// Adds what a grid's buffers hold and should not.
+    pub fn add_cells(&mut self, cells: &Cells, grid: &Grid) {
+        self.add_difference("row", &cells.rows, &grid.rows);
+        self.add_difference("col", &cells.cols, &grid.cols);
+        self.add_difference("sad", &cells.sads, &grid.sads);
+    }
+
+    /// The same of a grid and a file.
     pub fn add_memory(&mut self, lent: &Lent, grid: &Grid, file: &[u8]) {
-        self.add_difference("row", &lent.rows, &grid.rows);
-        self.add_difference("col", &lent.cols, &grid.cols);
-        self.add_difference("sad", &lent.sads, &grid.sads);
+        self.add_cells(&lent.cells, grid);
         self.add_difference("byte", &lent.file, file);
     }
 }

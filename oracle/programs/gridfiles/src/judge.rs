@@ -62,6 +62,18 @@ impl Bytes<'_> {
     }
 }
 
+/// Columns and rows of a file that starts with these bytes, and how many it has, or
+/// the number of the refusal.
+pub fn peek(file: &[u8]) -> Result<(usize, usize, usize), u32> {
+    let mut bytes = Bytes(file.iter());
+    bytes.mark()?;
+    let [columns, rows] = bytes.take()?.map(|less_one| usize::from(less_one) + 1);
+    match columns.is_multiple_of(2) && rows.is_multiple_of(2) {
+        true => Ok((columns, rows, file_len(columns * rows))),
+        false => Err(12),
+    }
+}
+
 /// Columns, rows and cells of a file, or the number of the refusal where the grid
 /// lent has room for so many cells.
 pub fn read(file: &[u8], room: usize) -> Result<(usize, usize, Grid), u32> {

@@ -1,7 +1,9 @@
-//! Writes and reads grid files, whole and in fragments, by the proved code and by the
-//! judges, and compares their answers and all memory that was lent.
+//! Writes and reads grid files, whole and in fragments, and compares grids, by the
+//! proved code and by the judges, and compares their answers and all memory that was
+//! lent.
 
 mod case;
+mod compare;
 mod draw;
 mod fragments;
 mod grid;
@@ -20,15 +22,15 @@ use std::{iter::repeat_n, process::ExitCode};
 use cases::{Answers, Comparison, Random, Told};
 
 use crate::{
-    case::Case, fragments::Fragments, lent::Lent, read::Read, state::State, tally::Tally,
-    write::Write,
+    case::Case, compare::Compare, fragments::Fragments, lent::Lent, read::Read, state::State,
+    tally::Tally, write::Write,
 };
 
 /// Draws a case for the round of that number.
 type Draw = fn(&mut Random, usize) -> Box<dyn Case>;
 
 /// Every kind of case with its cases in a round: one, where it goes through a list.
-const KINDS: [(&str, usize, Draw); 10] = [
+const KINDS: [(&str, usize, Draw); 11] = [
     ("write", 4, Write::draw),
     ("read", 4, Read::draw),
     ("cut", 1, Read::cut),
@@ -39,6 +41,7 @@ const KINDS: [(&str, usize, Draw); 10] = [
     ("bytes", 1, Fragments::bytes),
     ("short", 1, Fragments::short),
     ("state", 2, State::draw),
+    ("compare", 4, Compare::draw),
 ];
 
 struct GridFiles {
@@ -85,9 +88,10 @@ impl Comparison for GridFiles {
             "read" => Read::take(&numbers),
             "fragments" => Fragments::take(&numbers),
             "state" => State::take(&numbers),
+            "compare" => Compare::take(&numbers),
             _ => {
                 return Err(format!(
-                    "no kind {kind:?} to replay; there are write, read, fragments, state"
+                    "no kind {kind:?} to replay; there are write, read, fragments, state, compare"
                 ));
             }
         };

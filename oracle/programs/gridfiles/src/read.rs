@@ -200,6 +200,12 @@ impl Case for Read {
         answers.add("code", refusal, shape.code);
         answers.add("columns", columns as i128, shape.columns);
         answers.add("rows", rows as i128, shape.rows);
+        let (peeked, peek) = (judge::peek(&file), lent.peek());
+        let (columns, rows, bytes) = peeked.unwrap_or((0, 0, 0));
+        answers.add("peek", peeked.err().unwrap_or(0), peek.code);
+        answers.add("peek_columns", columns as i128, peek.columns);
+        answers.add("peek_rows", rows as i128, peek.rows);
+        answers.add("peek_bytes", bytes as i128, peek.bytes);
         outcome.add_memory(lent, &should, &file);
         outcome
     }

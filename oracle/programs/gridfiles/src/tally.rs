@@ -14,6 +14,8 @@ use crate::{
 /// Every refusal that a grid file can meet, and that a reader can.
 const REFUSALS: [u32; 6] = [1, 5, 10, 11, 12, 13];
 const READERS_REFUSALS: [u32; 4] = [10, 11, 12, 13];
+/// And what a comparison hands on or gives.
+const COMPARED_REFUSALS: [u32; 6] = [10, 11, 12, 13, 14, 99];
 
 /// The kinds that go through a list, again from its start once all is done.
 const LISTS: [(&str, &str, usize); 4] = [
@@ -44,6 +46,43 @@ pub struct Tally {
     kept_13: usize,
     readings_refusals: BTreeMap<u32, usize>,
     states: States,
+    compared: Compared,
+}
+
+/// Pairs of grids.
+#[derive(Default)]
+struct Compared {
+    all: usize,
+    /// How many differed in so many places; of the others, with which refusal.
+    places: BTreeMap<usize, usize>,
+    refusals: BTreeMap<u32, usize>,
+}
+
+impl Compared {
+    fn add(&mut self, places: usize, refusal: u32) {
+        self.all += 1;
+        match refusal {
+            0 => *self.places.entry(places).or_default() += 1,
+            number => *self.refusals.entry(number).or_default() += 1,
+        }
+    }
+
+    fn print(&self) {
+        println!("pairs of grids compared: {}", self.all);
+        for (places, cases) in &self.places {
+            println!("pairs that differ in {places} places: {cases}");
+        }
+        for (number, cases) in &self.refusals {
+            println!("pairs refused {number}: {cases}");
+        }
+    }
+
+    fn never(&self) -> Option<String> {
+        let refusal = COMPARED_REFUSALS.into_iter().find(|number| !self.refusals.contains_key(number));
+        let refusal = refusal.map(|number| format!("a pair refused {number}"));
+        let places = (0..3).find(|places| !self.places.contains_key(places));
+        refusal.or(places.map(|places| format!("a pair that differs in {places} places")))
+    }
 }
 
 /// The calls with a state that no call need have given back.
@@ -105,6 +144,10 @@ impl Tally {
             self.states.add(given, outcome.refusal);
             return;
         }
+        if let Some(places) = outcome.compared {
+            self.compared.add(places, outcome.refusal);
+            return;
+        }
         let in_fragments = outcome.calls > 0;
         self.readings += usize::from(in_fragments);
         self.calls += outcome.calls;
@@ -131,7 +174,7 @@ impl Tally {
         }
         let (readings, calls) = (self.readings, self.calls);
         let cases: usize = self.kinds.values().sum();
-        let whole = cases - readings - self.states.all;
+        let whole = cases - readings - self.states.all - self.compared.all;
         println!("files written or read whole: {whole}");
         println!("readings in fragments: {readings}, in {calls} calls");
         println!("readings compared with the file read whole: {}", self.whole);
@@ -150,6 +193,7 @@ impl Tally {
             println!("readings refused {number}: {cases}");
         }
         self.states.print();
+        self.compared.print();
     }
 
     /// The first that did not come up: a refusal, or what states must have.
@@ -160,6 +204,7 @@ impl Tally {
         let mut all = in_files.into_iter().chain(in_readings).chain(of_states);
         let refusal = all.find(|(number, seen)| !seen.contains_key(number));
         let refusal = refusal.map(|(number, _)| format!("refused {number}"));
-        refusal.or_else(|| self.states.never())
+        let refusal = refusal.or_else(|| self.states.never());
+        refusal.or_else(|| self.compared.never())
     }
 }

@@ -32,7 +32,7 @@ module _ (c : tie.Else1) where
   fine = sym (number (c .before)) ∙ c .if1 .left
 
   there : 4 ≤ length (now (entry (c .before) .args .file))
-  there = header-there (now (entry (c .before) .args .file)) (lent (c .before)) fine
+  there = header-there (now (entry (c .before) .args .file)) (room (lent (c .before))) fine
 
 room-requires : tie.Need-room-requires
 room-requires c κs = search needs
@@ -85,7 +85,7 @@ get-cells-requires c κs =
     let cells = passed .before in
     let read = cells .before in
     let head = read .before .before in
-    let fits = header-fits (now (entry (head .before) .args .file)) (lent (head .before)) (fine head) in (
+    let fits = header-fits (now (entry (head .before) .args .file)) (room (lent (head .before))) (fine head) in (
       (there head, omega arith, omega (arith, read .shared-slice-known3 .given 2), omega (arith, read .shared-slice-known3 .given 3), sym (cells .cells-refusal .ensures) ∙ passed .if2 .left),
       (omega (arith, fits), omega (arith, fits), omega (arith, fits)),
     )
