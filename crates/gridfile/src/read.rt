@@ -14,8 +14,8 @@ ghost use lib.Dec.{ltb};
 ghost use Rattle.ground.specs.Every.{allBelow};
 ghost use Rattle.grid.specs.Lent.{entryGrid, exitGrid};
 ghost use Rattle.refusal.specs.Refusals.{refuse, _then_};
-ghost use Rattle.records.specs.Records.{headerBytes, fileBytes};
-ghost use Rattle.gridfile.specs.Reading.{marked, between, start, taken, kept, ended};
+ghost use Rattle.records.specs.Records.{headerBytes, mostCells, fileBytes};
+ghost use Rattle.gridfile.specs.Reading.{marked, headerEnd, between, start, taken, kept, ended};
 
 // 0 or a refusal, and columns and rows of cells.
 #[repr(C)]
@@ -54,6 +54,23 @@ fn mark_refusal(file: &[u8], at: usize) -> u32
     0
 }
 
+// The tests at a header's end: 12, then 13.
+pub fn end_refusal(room: usize, columns: usize, rows: usize) -> u32
+    requires { ⌜ (columns ≤ mostCells) × (rows ≤ mostCells) ⌝ }
+    ensures { λ r. ⌜ r ≡ headerEnd room columns rows .code ⌝ }
+{
+    if columns % 2 != 0 {
+        return 12;
+    }
+    if rows % 2 != 0 {
+        return 12;
+    }
+    if room < columns * rows {
+        return 13;
+    }
+    0
+}
+
 // The header: refusals 10, 11, 12 and 13, from the front.
 pub(crate) fn header_refusal(file: &[u8], room: usize) -> u32
     ensures { λ r. ⌜ r ≡ (taken room start (take headerBytes (now (file .entry))) .code then refuse 11 (ltb 0 (taken room start (take headerBytes (now (file .entry))) .columns))) ⌝ }
@@ -65,18 +82,7 @@ pub(crate) fn header_refusal(file: &[u8], room: usize) -> u32
     if file.len() < HEADER_BYTES {
         return 11;
     }
-    let columns = file[2] as usize + 1;
-    let down = file[3] as usize + 1;
-    if columns % 2 != 0 {
-        return 12;
-    }
-    if down % 2 != 0 {
-        return 12;
-    }
-    if room < columns * down {
-        return 13;
-    }
-    0
+    end_refusal(room, file[2] as usize + 1, file[3] as usize + 1)
 }
 
 // Whether the first `count` cell records, all of whose bytes are there, start with the mark.

@@ -1,5 +1,6 @@
 use crate::reader::Reader;
 use crate::reader::between;
+use gridfile::read::end_refusal;
 use records::limits::MARK_FIRST;
 use records::limits::MARK_SECOND;
 ghost use mathlib.Core.Path.{_≡_};
@@ -14,16 +15,8 @@ fn header_end(room: usize, columns: u32, rows: u32) -> Reader
     requires { ⌜ (columns ≤ mostCells) × (rows ≤ mostCells) ⌝ }
     ensures { λ r. ⌜ r ≡ readerOf (headerEnd room columns rows) ⌝ }
 {
-    if columns % 2 != 0 {
-        return between(12, columns, rows, 0);
-    }
-    if rows % 2 != 0 {
-        return between(12, columns, rows, 0);
-    }
-    if room < (columns as usize) * (rows as usize) {
-        return between(13, columns, rows, 0);
-    }
-    between(0, columns, rows, 0)
+    let code = end_refusal(room, columns as usize, rows as usize);
+    between(code, columns, rows, 0)
 }
 
 // One byte more of the record that comes next.

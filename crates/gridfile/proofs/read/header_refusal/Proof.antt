@@ -1,4 +1,5 @@
 -- `gridfile::read::header_refusal` meets its contract: each return has the tests before it passed. Assumes nothing.
+use borrow.Author.Needs.{needs}
 use mathlib.Core.Path.{_≡_, sym, _∙_}
 use Prim.Native.Nat.{ℕ, _+_}
 use native.Mathlib.Omega.{arith}
@@ -6,8 +7,7 @@ use lib.ListN.{getD}
 use denote.Ref.{now}
 use Rattle.refusal.proofs.RefusalLaws.{first-is, then-later}
 use Rattle.gridfile.specs.Reading.{headerEnd}
-use Rattle.gridfile.proofs.WriteLaws.{shape-most}
-use Rattle.gridfile.proofs.HeaderLaws.{markNumber, headNumber, rest-number, short-number, long-number, head-number, odd-columns, odd-rows, too-many, none-wrong}
+use Rattle.gridfile.proofs.HeaderLaws.{markNumber, headNumber, rest-number, short-number, long-number, head-number}
 use Rattle.gridfile.proofs.read.header_refusal.Statement.{statement}
 use Rattle.gridfile.proofs.read.header_refusal.Tie as tie
 
@@ -36,43 +36,29 @@ returns-2 c =
     let a = c .before .before .before .before .args in
     sym (after-mark (c .before) ∙ short-number (a .room) (now (a .file)) (c .if2 .taken))
 
-shared-slice-read-columns : tie.Need-shared-slice-read-columns
-shared-slice-read-columns c = omega arith
+shared-slice-read-end-refusal : tie.Need-shared-slice-read-end-refusal
+shared-slice-read-end-refusal c = search needs
 
-cast-columns : tie.Need-cast-columns
-cast-columns c = omega (arith, c .shared-slice-known2 .given 2)
+cast-end-refusal : tie.Need-cast-end-refusal
+cast-end-refusal c = omega (arith, c .shared-slice-known2 .given 2)
 
-add-columns : tie.Need-add-columns
-add-columns c = omega (arith, c .shared-slice-known2 .given 2)
+add-end-refusal : tie.Need-add-end-refusal
+add-end-refusal c = omega (arith, c .shared-slice-known2 .given 2)
 
-shared-slice-read-down : tie.Need-shared-slice-read-down
-shared-slice-read-down c = omega arith
+shared-slice-read-end-refusal-2 : tie.Need-shared-slice-read-end-refusal-2
+shared-slice-read-end-refusal-2 c = search needs
 
-cast-down : tie.Need-cast-down
-cast-down c = omega (arith, c .shared-slice-known3 .given 3)
+cast-end-refusal-2 : tie.Need-cast-end-refusal-2
+cast-end-refusal-2 c = omega (arith, c .shared-slice-known3 .given 3)
 
-add-down : tie.Need-add-down
-add-down c = omega (arith, c .shared-slice-known3 .given 3)
+add-end-refusal-2 : tie.Need-add-end-refusal-2
+add-end-refusal-2 c = omega (arith, c .shared-slice-known3 .given 3)
+
+end-refusal-requires : tie.Need-end-refusal-requires
+end-refusal-requires c κs = (omega (arith, c .shared-slice-known3 .given 2), omega (arith, c .shared-slice-known3 .given 3))
 
 returns-3 : tie.Need-returns-3
-returns-3 c = at-end (c .before .before .before) (odd-columns _ _ _ (c .if3 .taken))
-
-returns-4 : tie.Need-returns-4
-returns-4 c = at-end (c .before .before .before .before) (odd-rows _ _ _ (c .before .if3 .left) (c .if4 .taken))
-
-mul-if5 : tie.Need-mul-if5
-mul-if5 c =
-    let third = c .before .before in
-    let file = now (third .before .before .before .before .before .before .args .file) in
-    omega (arith, shape-most {columns = getD file 2 0 + 1} {rows = getD file 3 0 + 1} (omega (arith, third .before .shared-slice-known2 .given 2)) (omega (arith, third .shared-slice-known3 .given 3)))
-
-returns-5 : tie.Need-returns-5
-returns-5 c =
-    at-end (c .before .before .before .before .before) (too-many _ _ _ (c .before .before .if3 .left) (c .before .if4 .left) (c .if5 .taken))
-
-returns-6 : tie.Need-returns-6
-returns-6 c =
-    at-end (c .before .before .before .before .before) (none-wrong _ _ _ (c .before .before .if3 .left) (c .before .if4 .left) (c .if5 .left))
+returns-3 c = at-end (c .before .before .before) (sym (c .end-refusal .ensures))
 
 pub header-refusal-spec : {M : Type 1} → statement M
 header-refusal-spec =
@@ -81,14 +67,11 @@ header-refusal-spec =
     mark-refusal-requires
     returns
     returns-2
-    shared-slice-read-columns
-    cast-columns
-    add-columns
-    shared-slice-read-down
-    cast-down
-    add-down
-    returns-3
-    returns-4
-    mul-if5
-    returns-5
-    returns-6)
+    shared-slice-read-end-refusal
+    cast-end-refusal
+    add-end-refusal
+    shared-slice-read-end-refusal-2
+    cast-end-refusal-2
+    add-end-refusal-2
+    end-refusal-requires
+    returns-3)
