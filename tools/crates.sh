@@ -20,3 +20,15 @@ alone() {
     mkdir -p "$root/target"
     (cd "$root" && flock 9 && "$@") 9>"$root/target/lock"
 }
+
+# start NAME WORDS..: a proved program, on x86-64 as it is, elsewhere by the kit's emulator and C library.
+start() {
+    local program=$root/target/bin/$1 tools
+    shift
+    if [ "$(uname -m)" = x86_64 ]; then
+        "$program" "$@"
+        return
+    fi
+    tools=${RATTLE_HOME:-$(dirname "$(dirname "$(rt doc)")")}/on/$(uname -m)/toolchain
+    "$tools/bin/qemu-x86_64" "$tools/lib/ld-linux-x86-64.so.2" --library-path "$tools/lib" "$program" "$@"
+}

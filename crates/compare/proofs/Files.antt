@@ -48,15 +48,15 @@ module _ (file : List ℕ) (g : Grid) (other : List ℕ) (h : Grid) (bytes : OfB
   unfolding compareAnswer comparisonOf
   count-is = ap (λ (n : ℕ). cond (eqb n 0) (length (differing (readGrid file g) (readGrid other h) 0 cells)) 0) none
 
-  first-read : readRefusal file g ≡ 0
+  pub first-read : readRefusal file g ≡ 0
   unfolding compareRefusal readAnswer shapeOf
   first-read = none-of (readRefusal file g) _ none .0
 
-  second-read : readRefusal other h ≡ 0
+  pub second-read : readRefusal other h ≡ 0
   unfolding compareRefusal readAnswer shapeOf
   second-read = none-of (readRefusal other h) _ (none-of (readRefusal file g) _ none .1) .0
 
-  one-shape : (readAnswer file g .columns ≡ readAnswer other h .columns) × (readAnswer file g .rows ≡ readAnswer other h .rows)
+  pub one-shape : (readAnswer file g .columns ≡ readAnswer other h .columns) × (readAnswer file g .rows ≡ readAnswer other h .rows)
   unfolding compareRefusal
   one-shape =
       let columns = eqb (readAnswer file g .columns) (readAnswer other h .columns) in

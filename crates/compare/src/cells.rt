@@ -6,14 +6,15 @@ ghost use lib.ListN.{length, getD};
 ghost use Rattle.grid.specs.Lent.{entryGrid};
 ghost use Rattle.compare.specs.Differ.{sameCell, differsAt, differing};
 
-fn same_cell(a: MEStats, b: MEStats) -> bool
+// Whether two cells hold the same row, col and SAD.
+pub fn same_cell(a: MEStats, b: MEStats) -> bool
     ensures { λ r. ⌜ r ≡ sameCell a b ⌝ }
 {
     a.mv.row == b.mv.row && a.mv.col == b.mv.col && a.normalized_sad == b.normalized_sad
 }
 
 // Whether a cell of the first grid and that of the second do not hold the same.
-pub fn differs_at(
+pub(crate) fn differs_at(
     first_rows: &[i16],
     first_cols: &[i16],
     first_sads: &[u32],
@@ -32,7 +33,7 @@ pub fn differs_at(
 }
 
 // How many places differ, from one cell on up to another.
-pub fn count_differing(
+pub(crate) fn count_differing(
     first_rows: &[i16],
     first_cols: &[i16],
     first_sads: &[u32],

@@ -11,7 +11,7 @@ use lib.Seq.{set-at, append-snoc, getD-take, getD-at}
 use Rattle.records.specs.Records.{headerBytes, cellBytes}
 use Rattle.gridfile.specs.Reading.{State, begun, refusedAt, marked, headerDone, headerEnd, cellDone, recordByte, next}
 use Rattle.gridfile.proofs.TakenLaws.{byte-wrong, byte-more, byte-last}
-use Rattle.held.specs.declared.reader.Reader.{Reader}
+use Rattle.held.specs.declared.state.Reader.{Reader}
 use Rattle.held.specs.Held.{plain, partBytes, readerOf, stateOf}
 use Rattle.held.proofs.OpenLaws.{Open, readerWith}
 

@@ -16,7 +16,7 @@ use Rattle.records.specs.Records.{headerBytes, cellBytes, mostCells}
 use Rattle.records.specs.Numbers.{OfBytes}
 use Rattle.records.proofs.NumberLaws.{bytes-front}
 use Rattle.gridfile.specs.Reading.{State, start, refusedAt, begun, marked, headerEnd, headerDone, cellDone, recordByte, next, taken}
-use Rattle.held.specs.declared.reader.Reader.{Reader}
+use Rattle.held.specs.declared.state.Reader.{Reader}
 use Rattle.held.specs.Held.{readerOf, recordBytes, shaped, stateOf}
 
 -- the record that comes next: the header's four bytes, or a cell's ten

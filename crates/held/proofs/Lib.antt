@@ -2,3 +2,4 @@
 pub mod HeldLaws
 pub mod OpenLaws
 pub mod ByteLaws
+pub mod SeenLaws

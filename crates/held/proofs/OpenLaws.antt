@@ -12,7 +12,7 @@ use lib.Seq.{length-take-le}
 use Rattle.ground.proofs.TestLaws.{tested, both}
 use Rattle.gridfile.specs.Reading.{between, begun, refusedAt}
 use Rattle.records.specs.Records.{mostCells}
-use Rattle.held.specs.declared.reader.Reader.{Reader}
+use Rattle.held.specs.declared.state.Reader.{Reader}
 use Rattle.held.specs.Held.{plain, partBytes, readerOf, recordBytes, shaped, stateOf, Settled}
 use Rattle.held.proofs.HeldLaws.{some-bytes}
 

@@ -1,13 +1,13 @@
 -- The state between two calls, as a record of 40 bytes.
 use mathlib.Core.Path.{_≡_}
-use Prim.Native.Nat.{ℕ, _-_, min}
+use Prim.Native.Nat.{ℕ, _-_, _*_, min}
 use mathlib.Core.Bool.{Bool, _&&_, cond}
-use mathlib.Core.List.{_++_, []}
+use mathlib.Core.List.{List, _++_, []}
 use lib.Dec.{leb, eqb}
 use lib.ListN.{length, take, replicate}
 use Rattle.records.specs.Records.{headerBytes, cellBytes, mostCells}
-use Rattle.gridfile.specs.Reading.{State, begun, refusedAt}
-use Rattle.held.specs.declared.reader.Reader.{Reader}
+use Rattle.gridfile.specs.Reading.{State, begun, refusedAt, taken}
+use Rattle.held.specs.declared.state.Reader.{Reader}
 
 -- a state with no record begun
 abbrev pub plain : (code columns rows cells : ℕ) → State
@@ -50,3 +50,7 @@ stateOf r =
 -- a reader in which nothing stands but what is in use
 abbrev pub Settled : Reader → Type 0
 Settled r = readerOf (stateOf r) ≡ r
+
+-- the state after a fragment of a file that is only looked at, with room for any grid that a header says
+unfoldable pub checked : Reader → List ℕ → State
+checked r fragment = taken (mostCells * mostCells) (stateOf r) fragment

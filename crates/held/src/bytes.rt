@@ -1,5 +1,5 @@
-use crate::reader::Reader;
-use crate::reader::between;
+use crate::state::Reader;
+use crate::state::between;
 use gridfile::read::end_refusal;
 use records::limits::MARK_FIRST;
 use records::limits::MARK_SECOND;

@@ -10,7 +10,7 @@ use Rattle.grid.specs.Grid.{Grid, room}
 use Rattle.refusal.specs.Refusals.{refuse}
 use Rattle.refusal.proofs.RefusalLaws.{then-later}
 use Rattle.gridfile.specs.Reading.{State, refusedAt, taken, kept, whole, ended}
-use Rattle.held.specs.declared.reader.Reader.{Reader}
+use Rattle.held.specs.declared.state.Reader.{Reader}
 use Rattle.held.specs.Held.{plain, readerOf, stateOf, Settled}
 use Rattle.held.proofs.HeldLaws.{back, settled-back, sound-of}
 use Rattle.reader.specs.Calls.{Fits, tooShort, takenFrom, keptFrom, endedFrom, takeReader, takeGrid, endReader}

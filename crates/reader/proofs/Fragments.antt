@@ -9,7 +9,7 @@ use Rattle.records.proofs.NumberLaws.{bytes-front, bytes-back}
 use Rattle.gridfile.specs.Reading.{State, start, taken, kept, readRefusal, shapeOf, readAnswer}
 use Rattle.gridfile.proofs.KeptLaws.{kept-past}
 use Rattle.gridfile.proofs.FileLaws.{read-grid}
-use Rattle.held.specs.declared.reader.Reader.{Reader}
+use Rattle.held.specs.declared.state.Reader.{Reader}
 use Rattle.held.specs.Held.{readerOf, stateOf}
 use Rattle.held.proofs.HeldLaws.{Sound, sound-start, refused-back, back, sound-of, bytes-of, sound-taken}
 use Rattle.reader.specs.Calls.{takenFrom, keptFrom, endedFrom, newReader, takeReader, takeGrid, endReader}

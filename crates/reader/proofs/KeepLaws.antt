@@ -10,7 +10,7 @@ use Rattle.grid.specs.Grid.{Grid, withCell}
 use Rattle.records.specs.Records.{cellBytes, cellOf}
 use Rattle.gridfile.specs.Reading.{State, refusedAt, begun, headerDone, headerEnd, cellDone, next, keep}
 use Rattle.gridfile.proofs.TakenLaws.{past-mark, byte-last}
-use Rattle.held.specs.declared.reader.Reader.{Reader}
+use Rattle.held.specs.declared.state.Reader.{Reader}
 use Rattle.held.specs.Held.{partBytes, stateOf}
 use Rattle.held.proofs.HeldLaws.{some-bytes, next-by}
 use Rattle.held.proofs.OpenLaws.{Open, number-stays}

@@ -13,7 +13,7 @@ use Rattle.gridfile.specs.Reading.{State, between, taken, kept}
 use Rattle.gridfile.proofs.TakenLaws.{taken-append, kept-append, record-taken, record-kept}
 use Rattle.gridfile.proofs.MarkLaws.{markedAt, eight, eight-long, record-bytes}
 use Rattle.gridfile.proofs.KeptLaws.{SameLengths, kept-lengths, taken-free, kept-free}
-use Rattle.held.specs.declared.reader.Reader.{Reader}
+use Rattle.held.specs.declared.state.Reader.{Reader}
 use Rattle.held.specs.Held.{readerOf}
 use Rattle.reader.proofs.TurnLaws.{Turned}
 
@@ -61,7 +61,6 @@ module _ (columns rows cells : ℕ) (fragment : List ℕ) (lent : Grid) where
   gone-turned {space} i wide is few state grid e =
       let bytes = take (cellBytes * i) fragment in
       record {
-        few = few;
-        reader = e ∙ ap readerOf (sym state ∙ taken-free 0 space from bytes wide ∙ ap (λ (x : State). taken space x bytes) (sym is));
+        seen = record { few = few; reader = e ∙ ap readerOf (sym state ∙ taken-free 0 space from bytes wide ∙ ap (λ (x : State). taken space x bytes) (sym is)) };
         grid = grid ∙ kept-free 0 space from bytes lent wide ∙ ap (λ (x : State). kept space x bytes lent) (sym is);
       }

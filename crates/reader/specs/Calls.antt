@@ -6,7 +6,7 @@ use mathlib.Core.List.{List}
 use lib.Dec.{leb, eqb}
 use Rattle.grid.specs.Grid.{Grid, room}
 use Rattle.gridfile.specs.Reading.{State, start, refusedAt, taken, kept, ended}
-use Rattle.held.specs.declared.reader.Reader.{Reader}
+use Rattle.held.specs.declared.state.Reader.{Reader}
 use Rattle.held.specs.Held.{readerOf, stateOf}
 
 -- a grid long enough for what the header said

@@ -10,7 +10,7 @@ use Rattle.grid.specs.Grid.{Grid, statsAt, room}
 use Rattle.records.specs.Records.{headerBytes, cellOf, fileBytes}
 use Rattle.records.specs.Numbers.{OfBytes}
 use Rattle.gridfile.specs.Reading.{start, marked, taken, readRefusal, readAnswer, readGrid}
-use Rattle.held.specs.declared.reader.Reader.{Reader}
+use Rattle.held.specs.declared.state.Reader.{Reader}
 use Rattle.reader.specs.Calls.{newReader, takeReader, takeGrid, endReader}
 
 -- a call for each fragment, in turn: the last state, and the grid

@@ -1,9 +1,9 @@
 use crate::fragment::take_fragment;
 use grid::cells::room;
-use held::reader::Reader;
-use held::reader::between;
-use held::reader::count_of;
-use held::reader::settled;
+use held::state::Reader;
+use held::state::between;
+use held::state::count_of;
+use held::state::settled;
 ghost use mathlib.Core.Path.{_≡_};
 ghost use Rattle.grid.specs.Lent.{entryGrid, exitGrid};
 ghost use Rattle.reader.specs.Calls.{newReader, takeReader, takeGrid, endReader};

@@ -1,11 +1,11 @@
 use grid::cells::least;
 use grid::cells::save_cell;
 use held::bytes::next_byte;
-use held::reader::Reader;
-use held::reader::at_a_cell;
-use held::reader::between;
-use held::reader::count_of;
-use held::reader::missing;
+use held::state::Reader;
+use held::state::at_a_cell;
+use held::state::between;
+use held::state::count_of;
+use held::state::missing;
 use records::limits::CELL_BYTES;
 use records::limits::MARK;
 use records::numbers::get_16;

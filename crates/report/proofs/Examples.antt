@@ -1,13 +1,14 @@
 -- Document 02's report of one difference among four, byte by byte. Assumes nothing.
 use mathlib.Core.Path.{_≡_, refl}
-use mathlib.Core.List.{List, [], _∷_, _++_}
+use mathlib.Core.List.{List, [], _∷_}
 use Prim.Native.Nat.{ℕ}
 use lib.IntN.{ℤ, pos, negℤ}
 use Rattle.grid.specs.declared.cells.MEStats.{MEStats}
 use Rattle.grid.specs.Grid.{Grid, gridOf, storedAt, statsAt, withCell}
+use Rattle.compare.specs.Differ.{eqZ, sameCell, differsAt, placesFrom, differing}
 use Rattle.text.specs.Ascii.{ascii}
 use Rattle.text.specs.Decimal.{digitsIn, decimal, signed}
-use Rattle.report.specs.Lines.{placeText, cellText, cellLine, linesOf, lastLine, refusedLine}
+use Rattle.report.specs.Lines.{placeText, cellText, cellLine, linesOf, lastLine, reportOf, refusedLine}
 
 -- two cells across and two down, each with row −24, col −24 and SAD 0
 abbrev components : List ℤ
@@ -40,8 +41,8 @@ pub last-line : lastLine 1 4 ≡ ascii "differ 1 of 4\n"
 unfolding lastLine decimal digitsIn ascii
 last-line = refl
 
-pub report : linesOf 2 flat other (1 ∷ []) ++ lastLine 1 4 ≡ ascii "1 0 -24 -24 0 0 8 64\ndiffer 1 of 4\n"
-unfolding linesOf cellLine placeText cellText lastLine decimal digitsIn signed statsAt storedAt withCell ascii
+pub report : reportOf 2 4 flat other ≡ ascii "1 0 -24 -24 0 0 8 64\ndiffer 1 of 4\n"
+unfolding reportOf differing placesFrom differsAt sameCell eqZ linesOf cellLine placeText cellText lastLine decimal digitsIn signed statsAt storedAt withCell ascii
 report = refl
 
 pub refused : refusedLine 14 ≡ ascii "refused 14\n"

@@ -1,4 +1,8 @@
--- Laws that several proofs cite, and document 02's example.
+-- Laws that several proofs cite, the theorems of a report made block by block and of two files, and document 02's example.
 pub mod LineLaws
-pub mod BlockLaws
+pub mod PutLaws
+pub mod StepLaws
+pub mod Whole
+pub mod FileLaws
+pub mod Files
 pub mod Examples

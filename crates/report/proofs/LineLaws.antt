@@ -18,7 +18,7 @@ use Rattle.text.specs.Decimal.{decimal, signed}
 use Rattle.text.specs.Put.{Put}
 use Rattle.text.proofs.PutLaws.{behind}
 use Rattle.text.proofs.DecimalLaws.{decimal-most, signed-most}
-use Rattle.report.specs.Lines.{_␣_, placeText, cellText, cellLine, linesOf, lastLine, refusedLine}
+use Rattle.report.specs.Lines.{acrossMost, cellsMost, _␣_, placeText, cellText, cellLine, linesOf, lastLine, refusedLine}
 
 -- a text, a space and another text are put one behind the other
 pub spaced : {a b : List ℕ} {i j k h : ℕ} {l m n o : List ℕ} → Put a i l j m → Put (code " " ∷ []) j m k n → Put b k n h o → Put (a ␣ b) i l h o
@@ -36,26 +36,26 @@ length-line : (across i : ℕ) (a b : MEStats) → length (cellLine across i a b
 unfolding cellLine
 length-line across i a b = simp length-append (omega arith)
 
--- the wider a grid of 65,536 cells, the fewer its rows: a column and a row have six digits at most
-module _ (across i : ℕ) (some : 0 < across) (wide : across ≤ 256) (inside : i < 65536) where
-  digits : (a b : ℕ) → across ≤ 10 ^ suc a → 65536 ≤ 10 ^ suc b * across → length (placeText across i) ≤ suc a + suc (suc b)
+-- the wider a grid of 1,048,576 cells, the fewer its rows: a column and a row have eight digits at most
+module _ (across i : ℕ) (some : 0 < across) (wide : across ≤ acrossMost) (inside : i < cellsMost) where
+  digits : (a b : ℕ) → across ≤ 10 ^ suc a → cellsMost ≤ 10 ^ suc b * across → length (placeText across i) ≤ suc a + suc (suc b)
   digits a b x y =
       let column = decimal-most a (i % across) (lt-of-lt-of-le (mod-lt i some) x) in
       let row = decimal-most b (i / across) (div-lt-iff-lt-mul some .1 (lt-of-lt-of-le inside y)) in
       omega (arith, length-place across i)
 
-  pub place-most : length (placeText across i) ≤ 7
+  pub place-most : length (placeText across i) ≤ 9
   place-most =
-      ⊎-elim (λ e. digits 0 4 (omega (arith, ltb-true across 11 e)) (omega arith))
-      (λ e. ⊎-elim (λ d. digits 1 3 (omega (arith, ltb-true across 101 d)) (omega (arith, ltb-false across 11 e)))
-      (λ d. digits 2 2 (omega arith) (omega (arith, ltb-false across 101 d))) (tested (ltb across 101))) (tested (ltb across 11))
+      ⊎-elim (λ e. digits 0 6 (omega (arith, ltb-true across 11 e)) (omega arith))
+      (λ e. ⊎-elim (λ d. digits 2 4 (omega (arith, ltb-true across 1001 d)) (omega (arith, ltb-false across 11 e)))
+      (λ d. digits 3 3 (omega arith) (omega (arith, ltb-false across 1001 d))) (tested (ltb across 1001))) (tested (ltb across 11))
 
 -- the longest text of a cell, and the longest of each line
 pub cell-most : (c : MEStats) → FitsCell c → length (cellText c) ≤ 24
 cell-most c f =
     omega (arith, length-cell c, signed-most (c .mv .row) (f .mv .row), signed-most (c .mv .col) (f .mv .col), decimal-most 9 (c .«normalized_sad») (omega (arith, f .sad)))
 
-pub line-most : (across i : ℕ) (a b : MEStats) → 0 < across → across ≤ 256 → i < 65536 → FitsCell a → FitsCell b → length (cellLine across i a b) ≤ 58
+pub line-most : (across i : ℕ) (a b : MEStats) → 0 < across → across ≤ acrossMost → i < cellsMost → FitsCell a → FitsCell b → length (cellLine across i a b) ≤ 60
 line-most across i a b p h k f g =
     omega (arith, length-line across i a b, place-most across i p h k, cell-most a f, cell-most b g)
 

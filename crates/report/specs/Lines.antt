@@ -49,6 +49,13 @@ reportOf across cells f g =
 unfoldable pub refusedLine : ℕ → List ℕ
 refusedLine n = line (ascii "refused" ␣ decimal n)
 
--- room for any line: the longest cell line has 58 bytes
+-- a grid that is reported on has so many cells across at most, and so many in all
+abbrev pub acrossMost : ℕ
+acrossMost = 1024
+
+abbrev pub cellsMost : ℕ
+cellsMost = 1048576
+
+-- room for any line: the longest cell line has 60 bytes
 abbrev pub lineRoom : ℕ
 lineRoom = 64

@@ -6,7 +6,7 @@ use text::words::put_text;
 ghost use Prim.Native.Nat.{_+_, _≤_, _<_};
 ghost use lib.ListN.{length};
 ghost use Rattle.text.specs.Put.{Put};
-ghost use Rattle.report.specs.Lines.{lineRoom, placeText, cellText, cellLine, lastLine, refusedLine};
+ghost use Rattle.report.specs.Lines.{acrossMost, cellsMost, lineRoom, placeText, cellText, cellLine, lastLine, refusedLine};
 
 // The column and row of a place.
 fn put_place(across: usize, i: usize, at: usize, out: &mut [u8]) -> usize
@@ -33,7 +33,7 @@ fn put_cell_text(cell: MEStats, at: usize, out: &mut [u8]) -> usize
 }
 
 // The line of a differing cell: its place, and what the first grid and the second hold there.
-pub fn put_cell_line(
+pub(crate) fn put_cell_line(
     across: usize,
     i: usize,
     first: MEStats,
@@ -41,7 +41,7 @@ pub fn put_cell_line(
     at: usize,
     out: &mut [u8],
 ) -> usize
-    requires { ⌜ (0 < across) × (across ≤ 256) × (i < 65536) × (at + lineRoom ≤ length (now out)) ⌝ }
+    requires { ⌜ (0 < across) × (across ≤ acrossMost) × (i < cellsMost) × (at + lineRoom ≤ length (now out)) ⌝ }
     ensures { λ r. ⌜ Put (cellLine across i first second) at (now (out .entry)) r (now (out .exit)) ⌝ }
     ensures { λ r. ⌜ r ≤ at + lineRoom ⌝ }
 {
@@ -54,7 +54,7 @@ pub fn put_cell_line(
 }
 
 // So many of so many differ.
-pub fn put_last_line(n: u64, m: u64, at: usize, out: &mut [u8]) -> usize
+pub(crate) fn put_last_line(n: u64, m: u64, at: usize, out: &mut [u8]) -> usize
     requires { ⌜ at + lineRoom ≤ length (now out) ⌝ }
     ensures { λ r. ⌜ Put (lastLine n m) at (now (out .entry)) r (now (out .exit)) ⌝ }
     ensures { λ r. ⌜ r ≤ at + lineRoom ⌝ }

@@ -6,7 +6,7 @@ use native.Mathlib.Omega.{arith}
 use Rattle.gridfile.specs.Reading.{State, begun, next, taken}
 use Rattle.gridfile.proofs.TakenLaws.{refused-stays}
 use Rattle.gridfile.proofs.KeptLaws.{taken-free}
-use Rattle.held.specs.declared.reader.Reader.{Reader}
+use Rattle.held.specs.declared.state.Reader.{Reader}
 use Rattle.held.specs.Held.{readerOf, stateOf, Settled}
 use Rattle.held.proofs.OpenLaws.{number-stays, opened}
 use Rattle.held.proofs.bytes.next_byte.Statement.{statement}

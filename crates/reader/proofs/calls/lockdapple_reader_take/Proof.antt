@@ -8,7 +8,7 @@ use lib.ListN.{length}
 use denote.Ref.{now}
 use Rattle.grid.specs.Grid.{Grid, gridOf, room}
 use Rattle.gridfile.specs.Reading.{taken, kept}
-use Rattle.held.specs.declared.reader.Reader.{Reader}
+use Rattle.held.specs.declared.state.Reader.{Reader}
 use Rattle.held.specs.Held.{readerOf, stateOf}
 use Rattle.held.proofs.OpenLaws.{Open, opened}
 use Rattle.reader.specs.Calls.{Fits}

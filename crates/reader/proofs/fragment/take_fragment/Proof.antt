@@ -85,8 +85,7 @@ module _ (c : tie.After-take-bytes2) where
   first e =
       let all : ahead - 0 ≡ ahead = omega arith in
       record {
-        few = omega (arith, cut .if1 .left);
-        reader = c .take-bytes2 .ensures .0 ∙ ap (λ (n : ℕ). readerOf (taken (entry .args .space) (stateOf (entry .args .reader)) (bytes n))) all;
+        seen = record { few = omega (arith, cut .if1 .left); reader = c .take-bytes2 .ensures .0 ∙ ap (λ (n : ℕ). readerOf (taken (entry .args .space) (stateOf (entry .args .reader)) (bytes n))) all };
         grid = e ∙ ap (λ (n : ℕ). kept (entry .args .space) (stateOf (entry .args .reader)) (bytes n) lent) all;
       }
 

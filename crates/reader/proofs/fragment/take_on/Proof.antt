@@ -14,7 +14,7 @@ use Rattle.records.specs.Records.{cellBytes}
 use Rattle.records.specs.Numbers.{OfBytes}
 use Rattle.gridfile.specs.Reading.{between, kept}
 use Rattle.gridfile.proofs.WriteLaws.{shape-most}
-use Rattle.held.specs.declared.reader.Reader.{Reader}
+use Rattle.held.specs.declared.state.Reader.{Reader}
 use Rattle.held.specs.Held.{stateOf}
 use Rattle.held.proofs.OpenLaws.{Open, opened, AtCell, at-cell}
 use Rattle.reader.specs.Calls.{Fits}

@@ -12,7 +12,7 @@ use Rattle.report.proofs.lines.put_cell_line.Statement.{statement}
 use Rattle.report.proofs.lines.put_cell_line.Tie as tie
 
 -- how long the parts are at most
-parts : (c : tie.Start) → (length (placeText (c .args .across) (c .args .i)) ≤ 7) × (length (cellText (c .args .first)) ≤ 24) × (length (cellText (c .args .second)) ≤ 24)
+parts : (c : tie.Start) → (length (placeText (c .args .across) (c .args .i)) ≤ 9) × (length (cellText (c .args .first)) ≤ 24) × (length (cellText (c .args .second)) ≤ 24)
 parts c =
     let first : FitsCell (c .args .first) = search needs in
     let second : FitsCell (c .args .second) = search needs in
