@@ -20,7 +20,7 @@ compareRefusal first firstRoom second secondRoom =
     then refuse 13 (leb (first .columns * first .rows) secondRoom)
 
 -- the refusal, how many places differ, and the first of them: 0 in a refusal
-unfoldable pub comparisonOf : ℕ → ℕ → ℕ → Comparison
+unfoldable pub comparisonOf : (number count first : ℕ) → Comparison
 comparisonOf number count first =
     record { code = number; count = cond (eqb number 0) count 0; first = cond (eqb number 0) first 0 }
 

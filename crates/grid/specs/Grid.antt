@@ -21,7 +21,7 @@ unfoldable pub cells : ℕ → ℕ → ℕ
 cells width height = (width / cellSide) * (height / cellSide)
 
 -- row by row, W/4 cells each
-unfoldable pub cellAt : ℕ → ℕ → ℕ → ℕ
+unfoldable pub cellAt : (width bx by : ℕ) → ℕ
 cellAt width bx by = by * (width / cellSide) + bx
 
 -- the vector stored in a cell

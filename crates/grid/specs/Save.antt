@@ -25,7 +25,7 @@ saveWhere test stats g =
     }
 
 -- a number from one end up to another
-unfoldable pub upTo : ℕ → ℕ → ℕ → Bool
+unfoldable pub upTo : (low high n : ℕ) → Bool
 upTo low high n = leb low n && ltb n high
 
 -- whether a cell is one of the block of `size` pixels at (bx, by), cropped at the frame

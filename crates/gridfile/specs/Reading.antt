@@ -19,7 +19,7 @@ pub record State : Type 0 where
   pub part : List ℕ
 
 -- between two records, with so many cells whole
-abbrev pub between : ℕ → ℕ → ℕ → State
+abbrev pub between : (columns rows cells : ℕ) → State
 between columns rows cells = record { code = 0; columns = columns; rows = rows; cells = cells; part = [] }
 
 abbrev pub start : State
@@ -40,7 +40,7 @@ unfoldable pub marked : ℕ → ℕ → Bool
 marked place byte = leb (length mark) place || eqb byte (getD mark place 0)
 
 -- at the header's end: 12 odd column or row count, then 13 a lent buffer too short
-unfoldable pub headerEnd : ℕ → ℕ → ℕ → State
+unfoldable pub headerEnd : (room columns rows : ℕ) → State
 headerEnd room columns rows =
     record {
       code = refuse 12 (eqb (columns % 2) 0 && eqb (rows % 2) 0) then refuse 13 (leb (columns * rows) room);
@@ -95,7 +95,7 @@ unfoldable pub readRefusal : List ℕ → Grid → ℕ
 readRefusal file g = ended (taken (room g) start file)
 
 -- the refusal, and columns and rows of cells: 0 in a refusal
-unfoldable pub shapeOf : ℕ → ℕ → ℕ → Shape
+unfoldable pub shapeOf : (number columns rows : ℕ) → Shape
 shapeOf number columns rows =
     record { code = number; columns = cond (eqb number 0) columns 0; rows = cond (eqb number 0) rows 0 }
 

@@ -16,7 +16,7 @@ planeOf width height l =
     }
 
 -- a block's side in full-size pixels, cropped at the frame edge
-unfoldable pub croppedTo : ℕ → ℕ → ℕ → ℕ
+unfoldable pub croppedTo : (side size b : ℕ) → ℕ
 croppedTo side size b = min size (side - cellSide * b)
 
 -- the block of `size` pixels at cell (bx, by): at shift s it is bw>>s by bh>>s, with the range of bw by bh; its rates weigh nothing

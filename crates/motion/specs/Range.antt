@@ -13,7 +13,7 @@ unfoldable pub mvMin : ℕ → ℕ → ℤ
 mvMin b size = negℤ (pos (32 * b)) -ℤ pos 128 -ℤ pos (8 * size)
 
 -- the maximum: 32(W/4 − bx) − 8bw + 128 + 8bw, and rows likewise
-unfoldable pub mvMax : ℕ → ℕ → ℕ → ℤ
+unfoldable pub mvMax : (cells b size : ℕ) → ℤ
 mvMax cells b size = pos 32 *ℤ (pos cells -ℤ pos b) -ℤ pos (8 * size) +ℤ pos 128 +ℤ pos (8 * size)
 
 -- clip to −16,383..16,383
@@ -32,7 +32,7 @@ rangeOf columns rows bx by bw bh s =
     }
 
 -- a number between two others, both ends included
-unfoldable pub within : ℤ → ℤ → ℤ → Bool
+unfoldable pub within : (low x high : ℤ) → Bool
 within low x high = leZ low x && leZ x high
 
 -- whether a vector is in a range

@@ -17,7 +17,7 @@ use Rattle.predict.specs.declared.predictors.Subset.{Subset}
 use Rattle.predict.specs.declared.predictors.MotionEstimationSubsets.{MotionEstimationSubsets}
 
 -- clamped between two ends
-unfoldable pub clampTo : ℤ → ℤ → ℤ → ℤ
+unfoldable pub clampTo : (z low high : ℤ) → ℤ
 clampTo z low high = cond (ltZ z low) low (cond (ltZ high z) high z)
 
 unfoldable pub clampV : MvRange → MotionVector → MotionVector

@@ -1,4 +1,4 @@
--- `sad::sad::abs_diff` meets its contract: the difference of two bytes, and its negation, fit 32 bits.
+-- `sad::sad::abs_diff` meets its contract: the difference of two samples, and its negation, fit 32 bits.
 -- Assumes nothing.
 use borrow.Author.Needs.{needs}
 use borrow.Author.Tests.{ltb-true, ltb-false}
@@ -14,6 +14,7 @@ use mir.Val.{Fits, SFits, toZ, ofZ}
 use mir.ValLaws.{toZ-pos}
 use Rattle.ground.proofs.Bias.{bias, bias-minus, small-by, ltZ-bias, up-bias}
 use Rattle.ground.proofs.Words.{back}
+use Rattle.motion.specs.Limits.{largestSample}
 use Rattle.sad.specs.Sad.{absDiff}
 use Rattle.sad.proofs.sad.abs_diff.Statement.{statement}
 use Rattle.sad.proofs.sad.abs_diff.Tie as tie
@@ -22,8 +23,8 @@ module _ {a b : ℕ} (fa : Fits w8 a) (fb : Fits w8 b) where
   diff-bias : bias (pos a -ℤ pos b) + b ≡ 2 ^ 40 + a
   diff-bias = omega (arith, fa .fits, fb .fits, bias-minus (pos a) (pos b) (omega (arith, fa .fits)) (omega (arith, fb .fits)))
 
-  diff-small : mag (pos a -ℤ pos b) ≤ 255
-  diff-small = small-by (pos a -ℤ pos b) 255 (omega (arith, diff-bias, fb .fits)) (omega (arith, diff-bias, fa .fits)) (omega arith)
+  diff-small : mag (pos a -ℤ pos b) ≤ largestSample
+  diff-small = small-by (pos a -ℤ pos b) largestSample (omega (arith, diff-bias, fb .fits)) (omega (arith, diff-bias, fa .fits)) (omega arith)
 
   plain : toZ w32 a -ℤ toZ w32 b ≡ pos a -ℤ pos b
   plain = ap₂ _-ℤ_ (toZ-pos w32 a (omega (arith, fa .fits))) (toZ-pos w32 b (omega (arith, fb .fits)))
@@ -34,8 +35,8 @@ module _ {a b : ℕ} (fa : Fits w8 a) (fb : Fits w8 b) where
   turned-bias : bias (pos 0 -ℤ (pos a -ℤ pos b)) + a ≡ 2 ^ 40 + b
   turned-bias = omega (arith, diff-bias, fa .fits, fb .fits, bias-minus (pos 0) (pos a -ℤ pos b) (omega arith) (omega (arith, diff-small)))
 
-  turned-small : mag (pos 0 -ℤ (pos a -ℤ pos b)) ≤ 255
-  turned-small = small-by (pos 0 -ℤ (pos a -ℤ pos b)) 255 (omega (arith, turned-bias, fa .fits)) (omega (arith, turned-bias, fb .fits)) (omega arith)
+  turned-small : mag (pos 0 -ℤ (pos a -ℤ pos b)) ≤ largestSample
+  turned-small = small-by (pos 0 -ℤ (pos a -ℤ pos b)) largestSample (omega (arith, turned-bias, fa .fits)) (omega (arith, turned-bias, fb .fits)) (omega arith)
 
   turned : toZ w32 (ofZ w32 (pos 0 -ℤ toZ w32 (ofZ w32 (toZ w32 a -ℤ toZ w32 b)))) ≡ pos 0 -ℤ (pos a -ℤ pos b)
   turned = ap (λ (z : ℤ). toZ w32 (ofZ w32 (pos 0 -ℤ z))) read ∙ back w32 (pos 0 -ℤ (pos a -ℤ pos b)) (omega (arith, turned-small))
