@@ -1,6 +1,8 @@
 use crate::state::Reader;
 use crate::state::between;
 use gridfile::read::end_refusal;
+use records::limits::CELL_LAST;
+use records::limits::HEADER_LAST;
 use records::limits::MARK_FIRST;
 use records::limits::MARK_SECOND;
 ghost use mathlib.Core.Path.{_≡_};
@@ -58,7 +60,7 @@ fn header_byte(reader: Reader, room: usize, byte: u8) -> Reader
     if !mark_holds(reader.held, byte) {
         return between(10, reader.columns, reader.rows, reader.cells);
     }
-    if reader.held < 3 {
+    if reader.held < HEADER_LAST {
         return begin(reader, byte);
     }
     let part = reader.part;
@@ -75,7 +77,7 @@ fn cell_byte(reader: Reader, byte: u8) -> Reader
     if !mark_holds(reader.held, byte) {
         return between(10, reader.columns, reader.rows, reader.cells);
     }
-    if reader.held < 9 {
+    if reader.held < CELL_LAST {
         return begin(reader, byte);
     }
     between(0, reader.columns, reader.rows, reader.cells + 1)

@@ -7,6 +7,7 @@ use held::state::between;
 use held::state::count_of;
 use held::state::missing;
 use records::limits::CELL_BYTES;
+use records::limits::CELL_LAST;
 use records::limits::MARK;
 use records::numbers::get_16;
 use records::parts::get_cell;
@@ -20,6 +21,9 @@ ghost use Rattle.gridfile.specs.Reading.{between, taken, keep, kept};
 ghost use Rattle.held.specs.Held.{readerOf, stateOf, Settled};
 ghost use Rattle.reader.specs.Calls.{Fits};
 
+// Where a cell's last byte stands in what is held.
+const LAST_PLACE: usize = CELL_LAST as usize;
+
 // The cell that a byte completes goes to the grid.
 fn keep_byte(reader: Reader, byte: u8, rows: &mut [i16], cols: &mut [i16], sads: &mut [u32])
     requires { ⌜ Settled reader × Fits (room (lentGrid rows cols sads)) (stateOf reader) ⌝ }
@@ -28,14 +32,14 @@ fn keep_byte(reader: Reader, byte: u8, rows: &mut [i16], cols: &mut [i16], sads:
     if reader.code != 0 {
         return;
     }
-    if reader.held != 9 {
+    if reader.held != CELL_LAST {
         return;
     }
     if count_of(reader) <= reader.cells as usize {
         return;
     }
     let mut record = reader.part;
-    record[9] = byte;
+    record[LAST_PLACE] = byte;
     let cell = get_cell(&record, 0);
     save_cell(reader.cells as usize, cell, rows, cols, sads);
 }

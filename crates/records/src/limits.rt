@@ -12,6 +12,11 @@ pub const HEADER_BYTES: usize = 4;
 
 pub const CELL_BYTES: usize = 10;
 
+// The place of the last byte of each.
+pub const HEADER_LAST: u32 = HEADER_BYTES as u32 - 1;
+
+pub const CELL_LAST: u32 = CELL_BYTES as u32 - 1;
+
 // A byte less one says how many columns or rows there are.
 pub const MOST_CELLS: u32 = 256;
 

@@ -11,7 +11,7 @@ ghost use mathlib.Core.Path.{_≡_};
 ghost use Prim.Native.Nat.{_+_, _≤_, _<_};
 ghost use lib.ListN.{length};
 ghost use lib.Seq.{sets, slice};
-ghost use Rattle.records.specs.Records.{mark, headerRecord, cellRecord, cellOf};
+ghost use Rattle.records.specs.Records.{mark, headerBytes, mostCells, headerRecord, cellBytes, cellRecord, cellOf};
 
 // The mark that every record starts with.
 fn put_mark(at: usize, file: &mut [u8])
@@ -24,7 +24,7 @@ fn put_mark(at: usize, file: &mut [u8])
 
 // Columns and rows of cells, each less one.
 pub fn put_header(columns: usize, rows: usize, file: &mut [u8])
-    requires { ⌜ (0 < columns) × (columns ≤ 256) × (0 < rows) × (rows ≤ 256) × (4 ≤ length (now file)) ⌝ }
+    requires { ⌜ (0 < columns) × (columns ≤ mostCells) × (0 < rows) × (rows ≤ mostCells) × (headerBytes ≤ length (now file)) ⌝ }
     ensures { λ r. ⌜ now (file .exit) ≡ sets (now (file .entry)) 0 (headerRecord columns rows) ⌝ }
 {
     put_mark(0, file);
@@ -33,7 +33,7 @@ pub fn put_header(columns: usize, rows: usize, file: &mut [u8])
 }
 
 pub fn put_cell(at: usize, cell: MEStats, file: &mut [u8])
-    requires { ⌜ at + 10 ≤ length (now file) ⌝ }
+    requires { ⌜ at + cellBytes ≤ length (now file) ⌝ }
     ensures { λ r. ⌜ now (file .exit) ≡ sets (now (file .entry)) at (cellRecord cell) ⌝ }
 {
     let row = bits_of(cell.mv.row) as u64;
@@ -44,8 +44,8 @@ pub fn put_cell(at: usize, cell: MEStats, file: &mut [u8])
 }
 
 pub fn get_cell(file: &[u8], at: usize) -> MEStats
-    requires { ⌜ at + 10 ≤ length (now file) ⌝ }
-    ensures { λ r. ⌜ r ≡ cellOf (slice at (at + 10) (now (file .entry))) ⌝ }
+    requires { ⌜ at + cellBytes ≤ length (now file) ⌝ }
+    ensures { λ r. ⌜ r ≡ cellOf (slice at (at + cellBytes) (now (file .entry))) ⌝ }
 {
     let mv = MotionVector {
         row: signed_of(get_16(file, at + 2)),
