@@ -8,7 +8,8 @@ use Rattle.grid.specs.Grid.{Grid, gridOf, storedAt, statsAt, withCell}
 use Rattle.compare.specs.Differ.{eqZ, sameCell, differsAt, placesFrom, differing}
 use Rattle.text.specs.Ascii.{ascii}
 use Rattle.text.specs.Decimal.{digitsIn, decimal, signed}
-use Rattle.report.specs.Lines.{placeText, cellText, cellLine, linesOf, lastLine, reportOf, refusedLine}
+use Rattle.listing.specs.Parts.{placeText, cellText}
+use Rattle.report.specs.Lines.{cellLine, linesOf, lastLine, reportOf}
 
 -- two cells across and two down, each with row −24, col −24 and SAD 0
 abbrev components : List ℤ
@@ -44,7 +45,3 @@ last-line = refl
 pub report : reportOf 2 4 flat other ≡ ascii "1 0 -24 -24 0 0 8 64\ndiffer 1 of 4\n"
 unfolding reportOf differing placesFrom differsAt sameCell eqZ linesOf cellLine placeText cellText lastLine decimal digitsIn signed statsAt storedAt withCell ascii
 report = refl
-
-pub refused : refusedLine 14 ≡ ascii "refused 14\n"
-unfolding refusedLine decimal digitsIn ascii
-refused = refl

@@ -7,11 +7,12 @@ use Rattle.grid.specs.declared.cells.MEStats.{MEStats}
 use Rattle.gridfile.specs.Reading.{readAnswer, readGrid}
 use Rattle.gridfile.proofs.Keeps.{accepted}
 use Rattle.compare.proofs.Files.{first-read, second-read, one-shape}
+use Rattle.listing.specs.Cells.{gridCells, fileCells, total}
+use Rattle.listing.proofs.FileLaws.{file-cells}
 use Rattle.report.specs.Lines.{reportOf}
-use Rattle.report.specs.Steps.{gridCells, reportStart}
-use Rattle.report.specs.Blocks.{inSteps, cut, total}
-use Rattle.report.specs.Files.{fileCells, SideBySide}
-use Rattle.report.proofs.FileLaws.{file-cells}
+use Rattle.report.specs.Steps.{reportStart}
+use Rattle.report.specs.Blocks.{inSteps, cut}
+use Rattle.report.specs.Files.{SideBySide}
 use Rattle.report.proofs.Whole.{in-steps}
 
 -- blocks whose cells are equal

@@ -1,8 +1,6 @@
 -- Laws that several proofs cite, the theorems of a report made block by block and of two files, and document 02's example.
 pub mod LineLaws
-pub mod PutLaws
 pub mod StepLaws
 pub mod Whole
-pub mod FileLaws
 pub mod Files
 pub mod Examples

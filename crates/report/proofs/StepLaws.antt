@@ -4,34 +4,17 @@ use mathlib.Core.Path.{_≡_, refl, sym, ap, _∙_}
 use mathlib.Core.Bool.{Bool, true, false, not, cond}
 use mathlib.Core.List.{List, [], _∷_, _++_, append-assoc, append-nil}
 use Prim.Native.Nat.{ℕ, zero, suc, _+_, _≤_}
-use native.Mathlib.Nat.{add-zero, zero-add, suc-add}
+use native.Mathlib.Nat.{add-zero}
 use native.Mathlib.Omega.{arith}
 use lib.ListN.{length, length-append}
 use Rattle.grid.specs.declared.cells.MEStats.{MEStats}
 use Rattle.grid.specs.Grid.{Grid, statsAt}
 use Rattle.compare.specs.Differ.{sameCell, differsAt, placesFrom}
+use Rattle.listing.specs.Cells.{cellsFrom, gridCells}
+use Rattle.listing.proofs.CellLaws.{cells-length, cells-more}
 use Rattle.report.specs.declared.steps.Report.{Report}
 use Rattle.report.specs.Lines.{cellLine, linesOf}
-use Rattle.report.specs.Steps.{Passed, cellsFrom, gridCells, stepLines, stepCount, stepBytes, stepReport}
-
-module _ (cell : ℕ → MEStats) where
-  pub cells-length : (i n : ℕ) → length (cellsFrom cell i n) ≡ n
-  unfolding cellsFrom
-  cells-length i zero = refl
-  cells-length i (suc n) = ap suc (cells-length (suc i) n)
-
-  -- cells behind others
-  pub cells-join : (i n m : ℕ) → cellsFrom cell i (n + m) ≡ cellsFrom cell i n ++ cellsFrom cell (i + n) m
-  unfolding cellsFrom
-  cells-join i zero m = rw (zero-add, add-zero)
-  cells-join i (suc n) m =
-      let next : suc i + n ≡ i + suc n = omega arith in
-      rw (suc-add) (ap (λ (cells : List MEStats). cell i ∷ cells) (cells-join (suc i) n m ∙ ap (λ (k : ℕ). cellsFrom cell (suc i) n ++ cellsFrom cell k m) next))
-
-  -- one cell more
-  pub cells-more : (n : ℕ) → cellsFrom cell 0 (n + 1) ≡ cellsFrom cell 0 n ++ cell n ∷ []
-  unfolding cellsFrom
-  cells-more n = cells-join 0 n 1 ∙ ap (λ (k : ℕ). cellsFrom cell 0 n ++ cell k ∷ []) (zero-add n)
+use Rattle.report.specs.Steps.{Passed, stepLines, stepCount, stepBytes, stepReport}
 
 -- the lines of cells behind others, and their count
 lines-joined : (across i : ℕ) (fs gs fs′ gs′ : List MEStats) → length fs ≡ length gs → stepLines across i (fs ++ fs′) (gs ++ gs′) ≡ stepLines across i fs gs ++ stepLines across (i + length fs) fs′ gs′

@@ -8,11 +8,13 @@ use Rattle.grid.specs.declared.cells.MEStats.{MEStats}
 use Rattle.grid.specs.Grid.{Grid, statsAt}
 use Rattle.compare.specs.Differ.{differsAt, placesFrom, differing}
 use Rattle.compare.proofs.Places.{none-differ}
+use Rattle.listing.specs.Cells.{cellsFrom, gridCells, total}
+use Rattle.listing.proofs.CellLaws.{cells-length, cells-join}
 use Rattle.report.specs.declared.steps.Report.{Report}
 use Rattle.report.specs.Lines.{cellLine, linesOf, lastLine, reportOf}
-use Rattle.report.specs.Steps.{cellsFrom, gridCells, reportStart, stepLines, stepCount, stepBytes, stepReport, endBytes}
-use Rattle.report.specs.Blocks.{inSteps, cut, total, InSteps, NoLines}
-use Rattle.report.proofs.StepLaws.{cells-length, cells-join, bytes-joined, report-joined, grid-lines, grid-count}
+use Rattle.report.specs.Steps.{reportStart, stepLines, stepCount, stepBytes, stepReport, endBytes}
+use Rattle.report.specs.Blocks.{inSteps, cut, InSteps, NoLines}
+use Rattle.report.proofs.StepLaws.{bytes-joined, report-joined, grid-lines, grid-count}
 
 -- the bytes of one step alone, and the last line
 abbrev alone : (r : Report) (fs gs : List MEStats) → List ℕ

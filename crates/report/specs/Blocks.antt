@@ -6,9 +6,10 @@ use Rattle.grid.specs.declared.cells.MEStats.{MEStats}
 use Rattle.grid.specs.Grid.{Grid}
 use Rattle.gridfile.specs.Keeps.{SameCells}
 use Rattle.compare.specs.Differ.{differing}
+use Rattle.listing.specs.Cells.{gridCells, total}
 use Rattle.report.specs.declared.steps.Report.{Report}
 use Rattle.report.specs.Lines.{linesOf, reportOf}
-use Rattle.report.specs.Steps.{gridCells, reportStart, stepBytes, stepReport, endBytes}
+use Rattle.report.specs.Steps.{reportStart, stepBytes, stepReport, endBytes}
 
 -- the cells of a block, of the first grid and of the second
 pub record Block : Type 0 where
@@ -24,11 +25,6 @@ inSteps r (b ∷ blocks) = stepBytes r (b .first) (b .second) ++ inSteps (stepRe
 unfoldable pub cut : (first second : (i n : ℕ) → List MEStats) (i : ℕ) (lengths : List ℕ) → List Block
 cut first second i [] = []
 cut first second i (n ∷ lengths) = record { first = first i n; second = second i n } ∷ cut first second (i + n) lengths
-
--- how many cells blocks of such lengths have
-unfoldable pub total : List ℕ → ℕ
-total [] = 0
-total (n ∷ lengths) = n + total lengths
 
 -- however the cells are cut, empty blocks among them, the steps make the report: every line in its order, N and M
 abbrev pub InSteps : Type 0

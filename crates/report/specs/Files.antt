@@ -1,21 +1,15 @@
 -- What is promised of two files that are read side by side, in blocks of whole cell records.
 use mathlib.Core.Path.{_≡_}
 use mathlib.Core.List.{List}
-use Prim.Native.Nat.{ℕ, _+_, _*_}
-use lib.Seq.{slice}
-use Rattle.grid.specs.declared.cells.MEStats.{MEStats}
+use Prim.Native.Nat.{ℕ, _*_}
 use Rattle.grid.specs.Grid.{Grid}
 use Rattle.records.specs.Numbers.{OfBytes}
-use Rattle.records.specs.Records.{fileBytes}
 use Rattle.gridfile.specs.Reading.{readAnswer, readGrid}
 use Rattle.compare.specs.Files.{ofFiles}
+use Rattle.listing.specs.Cells.{fileCells, total}
 use Rattle.report.specs.Lines.{reportOf}
-use Rattle.report.specs.Steps.{recordCells, reportStart}
-use Rattle.report.specs.Blocks.{inSteps, cut, total}
-
--- the cells of n records of a file, those behind its header and i cells
-unfoldable pub fileCells : (file : List ℕ) (i n : ℕ) → List MEStats
-fileCells file i n = recordCells (slice (fileBytes i) (fileBytes (i + n)) file) n
+use Rattle.report.specs.Steps.{reportStart}
+use Rattle.report.specs.Blocks.{inSteps, cut}
 
 -- where neither file is refused, the steps over all their records, however cut, make the report of the two grids
 abbrev pub SideBySide : Type 0

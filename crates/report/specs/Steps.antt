@@ -1,33 +1,14 @@
 -- A report made step by step: each step has the cells of a block of both grids, and what came before.
-use Prim.Native.Nat.{ℕ, zero, suc, _+_, _*_, _≤_, _<_}
+use Prim.Native.Nat.{ℕ, suc, _+_, _≤_, _<_}
 use mathlib.Core.Path.{_≡_}
 use mathlib.Core.Bool.{cond}
 use mathlib.Core.List.{List, [], _∷_, _++_}
 use lib.ListN.{length}
-use lib.Seq.{slice}
 use Rattle.grid.specs.declared.cells.MEStats.{MEStats}
-use Rattle.grid.specs.Grid.{Grid, statsAt}
-use Rattle.records.specs.Records.{cellBytes, cellOf}
 use Rattle.compare.specs.Differ.{sameCell}
+use Rattle.listing.specs.Parts.{acrossMost, cellsMost}
 use Rattle.report.specs.declared.steps.Report.{Report}
-use Rattle.report.specs.Lines.{acrossMost, cellsMost, cellLine, lastLine}
-
--- of so many places from one on, the cell of each
-unfoldable pub cellsFrom : (cell : ℕ → MEStats) (i n : ℕ) → List MEStats
-cellsFrom cell i zero = []
-cellsFrom cell i (suc n) = cell i ∷ cellsFrom cell (suc i) n
-
--- a grid's cells
-abbrev pub gridCells : Grid → (i n : ℕ) → List MEStats
-gridCells g = cellsFrom (statsAt g)
-
--- the cell of a record, in bytes where records stand one behind the other
-unfoldable pub recordAt : List ℕ → ℕ → MEStats
-recordAt bytes k = cellOf (slice (cellBytes * k) (cellBytes * k + cellBytes) bytes)
-
--- the cells of the first n records
-abbrev pub recordCells : (bytes : List ℕ) (n : ℕ) → List MEStats
-recordCells bytes n = cellsFrom (recordAt bytes) 0 n
+use Rattle.report.specs.Lines.{cellLine, lastLine}
 
 -- of the cells of two blocks, from a place on, the lines of those that differ
 unfoldable pub stepLines : (across i : ℕ) (fs gs : List MEStats) → List ℕ

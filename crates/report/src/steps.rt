@@ -10,8 +10,9 @@ ghost use Prim.Native.Nat.{_+_, _*_, _≤_};
 ghost use lib.ListN.{length};
 ghost use Rattle.records.specs.Records.{cellBytes};
 ghost use Rattle.text.specs.Put.{Put};
-ghost use Rattle.report.specs.Lines.{lineRoom};
-ghost use Rattle.report.specs.Steps.{Open, Passed, recordCells, reportStart, stepBytes, stepReport, endBytes};
+ghost use Rattle.listing.specs.Parts.{lineRoom};
+ghost use Rattle.listing.specs.Cells.{recordCells};
+ghost use Rattle.report.specs.Steps.{Open, Passed, reportStart, stepBytes, stepReport, endBytes};
 
 // What goes from a step to the next: cells across, the place of the next cell, and how many differed.
 pub struct Report {

@@ -6,8 +6,10 @@ use native.Mathlib.Omega.{arith}
 use lib.ListN.{length}
 use Rattle.records.specs.Records.{FitsCell}
 use Rattle.text.proofs.PutLaws.{behind}
-use Rattle.report.specs.Lines.{lineRoom, placeText, cellText, cellLine}
-use Rattle.report.proofs.LineLaws.{spaced, place-most, cell-most, line-most}
+use Rattle.listing.specs.Parts.{lineRoom, placeText, cellText}
+use Rattle.listing.proofs.LineLaws.{spaced, place-most, cell-most}
+use Rattle.report.specs.Lines.{cellLine}
+use Rattle.report.proofs.LineLaws.{line-most}
 use Rattle.report.proofs.lines.put_cell_line.Statement.{statement}
 use Rattle.report.proofs.lines.put_cell_line.Tie as tie
 

@@ -2,7 +2,7 @@
 use borrow.Author.Needs.{needs}
 use mathlib.Core.Path.{sym, _∙_}
 use native.Mathlib.Omega.{arith}
-use Rattle.report.proofs.PutLaws.{put-nothing, put-as}
+use Rattle.text.proofs.PutLaws.{put-nothing, put-as}
 use Rattle.report.proofs.StepLaws.{same-bytes, same-report, other-bytes, other-report}
 use Rattle.report.proofs.steps.report_cell.Statement.{statement}
 use Rattle.report.proofs.steps.report_cell.Tie as tie

@@ -7,10 +7,10 @@ use lib.Seq.{length-sets}
 use denote.Ref.{now}
 use Rattle.grid.specs.declared.cells.MEStats.{MEStats}
 use Rattle.text.specs.Put.{Put}
-use Rattle.text.proofs.PutLaws.{behind}
-use Rattle.report.specs.Lines.{lineRoom}
-use Rattle.report.specs.Steps.{Passed, cellsFrom, recordAt, recordCells, stepLines, stepBytes, stepReport}
-use Rattle.report.proofs.PutLaws.{put-nothing, put-as}
+use Rattle.text.proofs.PutLaws.{put-nothing, put-as, behind}
+use Rattle.listing.specs.Parts.{lineRoom}
+use Rattle.listing.specs.Cells.{cellsFrom, recordAt, recordCells}
+use Rattle.report.specs.Steps.{Passed, stepLines, stepBytes, stepReport}
 use Rattle.report.proofs.StepLaws.{no-report, passed-so-far, more-report, more-bytes}
 use Rattle.report.proofs.steps.report_step.Statement.{statement}
 use Rattle.report.proofs.steps.report_step.Tie as tie

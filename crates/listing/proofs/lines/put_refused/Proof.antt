@@ -1,4 +1,4 @@
--- `report::lines::put_refused` meets its contract: the number goes behind the word, and the line's end behind it.
+-- `listing::lines::put_refused` meets its contract: the number goes behind the word, and the line's end behind it.
 -- Assumes nothing.
 use borrow.Author.Needs.{needs}
 use Prim.Native.Nat.{_≤_}
@@ -8,9 +8,9 @@ use Rattle.text.specs.Ascii.{ascii}
 use Rattle.text.specs.Decimal.{decimal}
 use Rattle.text.proofs.PutLaws.{behind}
 use Rattle.text.proofs.DecimalLaws.{decimal-most}
-use Rattle.report.specs.Lines.{refusedLine}
-use Rattle.report.proofs.lines.put_refused.Statement.{statement}
-use Rattle.report.proofs.lines.put_refused.Tie as tie
+use Rattle.listing.specs.Lines.{refusedLine}
+use Rattle.listing.proofs.lines.put_refused.Statement.{statement}
+use Rattle.listing.proofs.lines.put_refused.Tie as tie
 
 -- a 32-bit number has ten digits at most
 digits : (c : tie.Start) → length (decimal (c .args .number)) ≤ 10

@@ -1,4 +1,4 @@
--- `report::lines::put_place` meets its contract: each part goes behind the one before it.
+-- `listing::cells::put_place` meets its contract: each part goes behind the one before it.
 -- Assumes nothing.
 use borrow.Author.Needs.{needs}
 use Prim.Native.Nat.{_+_, _/_, _%_, _≤_}
@@ -6,10 +6,10 @@ use native.Mathlib.Omega.{arith}
 use lib.ListN.{length}
 use denote.Ref.{now}
 use Rattle.text.specs.Decimal.{decimal}
-use Rattle.report.specs.Lines.{placeText}
-use Rattle.report.proofs.LineLaws.{spaced, length-place}
-use Rattle.report.proofs.lines.put_place.Statement.{statement}
-use Rattle.report.proofs.lines.put_place.Tie as tie
+use Rattle.listing.specs.Parts.{placeText}
+use Rattle.listing.proofs.LineLaws.{spaced, length-place}
+use Rattle.listing.proofs.cells.put_place.Statement.{statement}
+use Rattle.listing.proofs.cells.put_place.Tie as tie
 
 -- there is room for the parts
 room : (c : tie.Start) → c .args .at + (length (decimal (c .args .i % c .args .across)) + length (decimal (c .args .i / c .args .across)) + 1) ≤ length (now (c .args .out))

@@ -1,21 +1,20 @@
 -- Laws of a file's records: each is a cell of its grid, and a block of them is a block of the grid. Assumes nothing.
-use mathlib.Core.Path.{_≡_, refl, sym, ap, ap₂, _∙_}
-use mathlib.Core.List.{List, _∷_, _++_, append-assoc}
+use mathlib.Core.Path.{_≡_, sym, ap, ap₂, _∙_}
+use mathlib.Core.List.{List, _++_, append-assoc}
 use Prim.Native.Nat.{ℕ, zero, suc, _+_, _-_, _*_, _≤_, _<_}
 use native.Mathlib.Nat.{add-zero, zero-add, suc-add}
 use native.Mathlib.Omega.{arith}
 use lib.ListN.{length, take, drop, length-append}
 use lib.Seq.{slice, take-at, drop-at}
 use Rattle.ground.proofs.ListLaws.{slice-slice}
-use Rattle.grid.specs.declared.cells.MEStats.{MEStats}
 use Rattle.grid.specs.Grid.{Grid, statsAt}
 use Rattle.records.specs.Records.{headerBytes, cellBytes, headerRecord, cellRecord, cellOf, fileBytes, FitsCell}
 use Rattle.records.proofs.RecordLaws.{length-cell, cell-back}
 use Rattle.gridfile.specs.Writing.{cellRecords, fileOf}
 use Rattle.gridfile.specs.Keeps.{FitsCells}
 use Rattle.gridfile.proofs.WriteLaws.{length-cells}
-use Rattle.report.specs.Steps.{cellsFrom, gridCells, recordAt}
-use Rattle.report.specs.Files.{fileCells}
+use Rattle.listing.specs.Cells.{gridCells, recordAt, fileCells}
+use Rattle.listing.proofs.CellLaws.{same-cells}
 
 -- a part between two others
 middle : (a b c : List ℕ) (p n : ℕ) → length a ≡ p → length b ≡ n → slice p (p + n) (a ++ (b ++ c)) ≡ b
@@ -46,15 +45,6 @@ record-there columns rows g k inside fits =
     let long : length front ≡ fileBytes k = length-append (headerRecord columns rows) (cellRecords g 0 k) ∙ ap (λ (n : ℕ). headerBytes + n) (length-cells g 0 k) in
     ap cellOf (ap (slice (fileBytes k) (fileBytes k + cellBytes)) parts ∙ middle front here back (fileBytes k) cellBytes long (length-cell (statsAt g k)))
     ∙ cell-back (statsAt g k) fits
-
--- cells that are equal one by one
-same-cells : (f g : ℕ → MEStats) (n i j : ℕ) → ((k : ℕ) → k < n → f (i + k) ≡ g (j + k)) → cellsFrom f i n ≡ cellsFrom g j n
-unfolding cellsFrom
-same-cells f g zero i j same = refl
-same-cells f g (suc n) i j same =
-    let here : f i ≡ g j = ap f (sym (add-zero i)) ∙ same 0 (omega arith) ∙ ap g (add-zero j) in
-    let later : (k : ℕ) → k < n → f (suc i + k) ≡ g (suc j + k) = λ k below. ap f (omega arith) ∙ same (suc k) (omega arith) ∙ ap g (omega arith) in
-    ap₂ (λ (c : MEStats) (cells : List MEStats). c ∷ cells) here (same-cells f g n (suc i) (suc j) later)
 
 -- a block of a file's records is that of its grid
 pub file-cells : (columns rows : ℕ) (g : Grid) (file : List ℕ) → fileOf columns rows g ≡ file → FitsCells (columns * rows) g → (i n : ℕ) → i + n ≤ columns * rows → fileCells file i n ≡ gridCells g i n

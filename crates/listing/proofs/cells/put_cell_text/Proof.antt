@@ -1,4 +1,4 @@
--- `report::lines::put_cell_text` meets its contract: each part goes behind the one before it.
+-- `listing::cells::put_cell_text` meets its contract: each part goes behind the one before it.
 -- Assumes nothing.
 use borrow.Author.Needs.{needs}
 use mathlib.Core.Path.{_≡_}
@@ -9,10 +9,10 @@ use mir.Syntax.{w16}
 use mir.Val.{SFits, ofZ, toZ}
 use mir.ValLaws.{toZ-ofZ}
 use Rattle.text.specs.Decimal.{signed}
-use Rattle.report.specs.Lines.{cellText}
-use Rattle.report.proofs.LineLaws.{spaced, length-cell}
-use Rattle.report.proofs.lines.put_cell_text.Statement.{statement}
-use Rattle.report.proofs.lines.put_cell_text.Tie as tie
+use Rattle.listing.specs.Parts.{cellText}
+use Rattle.listing.proofs.LineLaws.{spaced, length-cell}
+use Rattle.listing.proofs.cells.put_cell_text.Statement.{statement}
+use Rattle.listing.proofs.cells.put_cell_text.Tie as tie
 
 -- components are held in bits
 fits : (c : tie.Start) → SFits w16 (c .args .cell .mv .row) × SFits w16 (c .args .cell .mv .col)
