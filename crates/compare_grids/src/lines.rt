@@ -4,6 +4,7 @@ use crate::files::summed;
 use crate::words::say_changed;
 use grid::cells::least;
 use libc::STDOUT_FILENO;
+use listing::lines::LINE;
 use listing::lines::put_refused;
 use records::limits::CELL_BYTES;
 use records::limits::HEADER_BYTES;
@@ -21,9 +22,6 @@ ghost use Rattle.records.specs.Records.{cellBytes};
 ghost use Rattle.listing.specs.Parts.{lineRoom};
 ghost use Rattle.report.specs.Steps.{Open, Passed};
 ghost use Rattle.compare_grids.specs.Shaped.{Shaped};
-
-// Room for any line.
-const LINE: usize = 64;
 
 // As many cells as are compared before their lines are written.
 const BLOCK: usize = 256;

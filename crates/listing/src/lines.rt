@@ -10,6 +10,9 @@ ghost use Rattle.text.specs.Put.{Put};
 ghost use Rattle.listing.specs.Parts.{acrossMost, cellsMost, lineRoom};
 ghost use Rattle.listing.specs.Lines.{headingLine, listedLine, refusedLine};
 
+// Room for any line.
+pub const LINE: usize = 64;
+
 // So many columns and rows of cells.
 pub fn put_heading(columns: usize, rows: usize, at: usize, out: &mut [u8]) -> usize
     requires { ⌜ at + lineRoom ≤ length (now out) ⌝ }

@@ -1,5 +1,6 @@
--- `print::grid` is safe and ends: no buffer is shorter than the cells.
+-- `print::grid` is safe and ends: no buffer is shorter than the cells, and each line has room.
 -- Assumes nothing.
+use borrow.Author.Needs.{needs}
 use Prim.Native.Nat.{_-_}
 use native.Mathlib.Omega.{arith}
 use Rattle.print.proofs.grid.Statement.{statement}
@@ -20,32 +21,11 @@ heading-requires c κs = tt
 loop-holds : tie.Need-loop-holds Inv-loop μ-loop
 loop-holds c = tt
 
-rem-cell : tie.Need-rem-cell Inv-loop μ-loop
-rem-cell c = omega arith
-
-div-cell : tie.Need-div-cell Inv-loop μ-loop
-div-cell c = omega arith
-
-mul-cell : tie.Need-mul-cell Inv-loop μ-loop
-mul-cell c = omega arith
-
-shared-slice-copy-out-cell : tie.Need-shared-slice-copy-out-cell Inv-loop μ-loop
-shared-slice-copy-out-cell c = omega arith
-
-mul-cell-2 : tie.Need-mul-cell-2 Inv-loop μ-loop
-mul-cell-2 c = omega arith
-
-shared-slice-copy-out-cell-2 : tie.Need-shared-slice-copy-out-cell-2 Inv-loop μ-loop
-shared-slice-copy-out-cell-2 c = omega arith
-
-mul-cell-3 : tie.Need-mul-cell-3 Inv-loop μ-loop
-mul-cell-3 c = omega arith
-
-shared-slice-read-cell : tie.Need-shared-slice-read-cell Inv-loop μ-loop
-shared-slice-read-cell c = omega arith
+stats-at-requires : tie.Need-stats-at-requires Inv-loop μ-loop
+stats-at-requires c κs = search needs
 
 cell-requires : tie.Need-cell-requires Inv-loop μ-loop
-cell-requires c κs = tt
+cell-requires c κs = search needs
 
 add-i : tie.Need-add-i Inv-loop μ-loop
 add-i c = omega arith
@@ -68,14 +48,7 @@ grid-spec =
     div-heading
     heading-requires
     loop-holds
-    rem-cell
-    div-cell
-    mul-cell
-    shared-slice-copy-out-cell
-    mul-cell-2
-    shared-slice-copy-out-cell-2
-    mul-cell-3
-    shared-slice-read-cell
+    stats-at-requires
     cell-requires
     add-i
     loop-less
