@@ -1,15 +1,13 @@
-use crate::files::Checked;
-use crate::files::open_again;
-use crate::files::summed;
-use crate::words::say_changed;
 use grid::cells::least;
-use libc::STDOUT_FILENO;
 use listing::lines::LINE;
-use listing::lines::put_refused;
+use passes::again::BLOCK;
+use passes::again::header_sum;
+use passes::again::load;
+use passes::again::same_at_end;
+use passes::files::Checked;
+use passes::files::open_again;
+use passes::output::write;
 use records::limits::CELL_BYTES;
-use records::limits::HEADER_BYTES;
-use records::limits::MARK;
-use records::numbers::get_16;
 use report::steps::Report;
 use report::steps::report_end;
 use report::steps::report_new;
@@ -21,67 +19,7 @@ ghost use lib.ListN.{length};
 ghost use Rattle.records.specs.Records.{cellBytes};
 ghost use Rattle.listing.specs.Parts.{lineRoom};
 ghost use Rattle.report.specs.Steps.{Open, Passed};
-ghost use Rattle.compare_grids.specs.Shaped.{Shaped};
-
-// As many cells as are compared before their lines are written.
-const BLOCK: usize = 256;
-
-// The first n bytes; false, with words, where they can't be written.
-fn write(out: &[u8], n: usize) -> bool
-    requires { ⌜ n ≤ length (now out) ⌝ }
-{
-    if io::write_all(STDOUT_FILENO, &out[0..n]) {
-        return true;
-    }
-    os::fail(b"standard output");
-    false
-}
-
-pub(crate) fn write_refused(number: u32) {
-    let mut out = [0u8; LINE];
-    let n = put_refused(number, 0, &mut out);
-    write(&out, n);
-}
-
-// A file that is gone through again: its bytes so far, and whether they were there.
-struct Again {
-    there: bool,
-    sum: u64,
-}
-
-// Whether each record of a block starts with the mark.
-fn marked(block: &[u8], count: usize) -> bool
-    requires { ⌜ cellBytes * count ≤ length (now block) ⌝ }
-{
-    let mut i = 0;
-    while i < count {
-        if get_16(block, CELL_BYTES * i) != MARK {
-            return false;
-        }
-        i += 1;
-    }
-    true
-}
-
-// The next records of a file; words where they are no longer there.
-fn load(fd: i32, which: usize, sum: u64, count: usize, block: &mut [u8]) -> Again
-    requires { ⌜ cellBytes * count ≤ length (now block) ⌝ }
-    ensures { λ r. ⌜ length (now (block .exit)) ≡ length (now (block .entry)) ⌝ }
-{
-    let n = CELL_BYTES * count;
-    // A block that is not full ends where the file does.
-    let got = io::read_full(fd, block);
-    if got == n {
-        if marked(&*block, count) {
-            return Again {
-                there: true,
-                sum: summed(sum, &*block, n),
-            };
-        }
-    }
-    say_changed(which);
-    Again { there: false, sum }
-}
+ghost use Rattle.passes.specs.Shaped.{Shaped};
 
 // Both files beside each other: the report so far, the sums of both, and whether it goes on.
 struct Pass {
@@ -164,23 +102,10 @@ fn pass_cells(
     pass
 }
 
-// A file that has no byte more, and whose bytes are those that were checked.
-fn same_at_end(fd: i32, sum: u64, checked: u64) -> bool {
-    let mut byte = [0u8; 1];
-    io::read_full(fd, &mut byte) == 0 && sum == checked
-}
-
 fn write_last(report: Report) {
     let mut out = [0u8; LINE];
     let n = report_end(report, &mut out);
     write(&out, n);
-}
-
-// The sum over a header, which was looked at when its file was checked.
-fn header_sum(fd: i32) -> u64 {
-    let mut header = [0u8; HEADER_BYTES];
-    io::read_full(fd, &mut header);
-    summed(0, &header, HEADER_BYTES)
 }
 
 // Two open files, from their first byte on.
@@ -202,12 +127,10 @@ fn compare_open(first: Checked, second: Checked, first_fd: i32, second_fd: i32)
     if !pass.on {
         return;
     }
-    if !same_at_end(first_fd, pass.first, first.sum) {
-        say_changed(1);
+    if !same_at_end(first_fd, 1, pass.first, first.sum) {
         return;
     }
-    if !same_at_end(second_fd, pass.second, second.sum) {
-        say_changed(2);
+    if !same_at_end(second_fd, 2, pass.second, second.sum) {
         return;
     }
     write_last(pass.report);

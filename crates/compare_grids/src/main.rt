@@ -7,16 +7,15 @@
 // Standard error says in words what a refusal means, which file could not be read or changed, and that a line could not be
 // written; after such words there is no last line. A file is gone through twice, some bytes at a time: to check it, and beside
 // the other one. So a grid of any size takes the same memory.
-mod files;
 mod lines;
 mod words;
 
 use compare::calls::compare_refusal;
-use files::check_named;
 use lines::compare;
-use lines::write_refused;
+use passes::files::check_named;
+use passes::output::write_refused;
+use passes::words::say;
 use records::limits::MOST_FILE_CELLS;
-use words::say;
 use words::say_refused;
 
 fn main() {

@@ -58,17 +58,11 @@ returns c = search needs
 same-at-end-requires : tie.Need-same-at-end-requires
 same-at-end-requires c κs = search needs
 
-say-changed-requires : tie.Need-say-changed-requires
-say-changed-requires c κs = search needs
-
 returns-2 : tie.Need-returns-2
 returns-2 c = search needs
 
 same-at-end-requires-2 : tie.Need-same-at-end-requires-2
 same-at-end-requires-2 c κs = search needs
-
-say-changed-requires-2 : tie.Need-say-changed-requires-2
-say-changed-requires-2 c κs = search needs
 
 returns-3 : tie.Need-returns-3
 returns-3 c = search needs
@@ -95,10 +89,8 @@ compare-open-spec =
     pass-cells-requires
     returns
     same-at-end-requires
-    say-changed-requires
     returns-2
     same-at-end-requires-2
-    say-changed-requires-2
     returns-3
     write-last-requires
     returns-4)

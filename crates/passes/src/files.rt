@@ -1,3 +1,4 @@
+use crate::sums::summed;
 use gridfile::read::Shape;
 use held::check::check_fragment;
 use held::state::Reader;
@@ -7,37 +8,16 @@ use records::limits::CELL_BYTES;
 use records::limits::HEADER_BYTES;
 use records::limits::MOST_FILE_CELLS;
 ghost use mathlib.Core.Path.{_≡_};
-ghost use Prim.Native.Nat.{_≤_, _<_};
-ghost use lib.ListN.{length};
-ghost use Rattle.compare_grids.specs.Shaped.{Shaped};
+ghost use Rattle.passes.specs.Shaped.{Shaped};
 
 // So many reads bring in the largest file and a byte more, though each brings one byte.
 const MOST_READS: usize = HEADER_BYTES + CELL_BYTES * MOST_FILE_CELLS + 1;
 
 // A file that was gone through: whether all of it could be read, its shape, and a sum over its bytes.
-pub(crate) struct Checked {
+pub struct Checked {
     pub read: bool,
     pub shape: Shape,
     pub sum: u64,
-}
-
-fn wide(byte: u8) -> u64
-    ensures { λ r. ⌜ r < 256 ⌝ }
-{
-    byte as u64
-}
-
-// The first n bytes more of a file, which nearly always give another sum where they are others.
-pub(crate) fn summed(sum: u64, bytes: &[u8], n: usize) -> u64
-    requires { ⌜ n ≤ length (now bytes) ⌝ }
-{
-    let mut next = sum;
-    let mut i = 0;
-    while i < n {
-        next = (next % 0x1_0000_0000) * 16_777_619 + wide(bytes[i]);
-        i += 1;
-    }
-    next
 }
 
 // A file that no byte of was read.
@@ -125,7 +105,7 @@ fn check_open(fd: i32, buffer: &mut [u8]) -> Checked
 }
 
 // The file that an argument names; words where it can't be opened or read.
-pub(crate) fn check_named(which: usize) -> Checked
+pub fn check_named(which: usize) -> Checked
     ensures { λ r. ⌜ Shaped (r .shape) ⌝ }
 {
     let mut name = io::buffer();
@@ -145,7 +125,7 @@ pub(crate) fn check_named(which: usize) -> Checked
 }
 
 // The same file open for reading once more; negative, with words, where it can't be.
-pub(crate) fn open_again(which: usize) -> i32 {
+pub fn open_again(which: usize) -> i32 {
     let mut name = io::buffer();
     let letters = os::arg(which, &mut name);
     let fd = os::open_read(&name[..letters]);

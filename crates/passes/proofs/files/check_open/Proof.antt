@@ -1,11 +1,11 @@
--- `compare_grids::files::check_open` meets its contract. Assumes nothing.
+-- `passes::files::check_open` meets its contract. Assumes nothing.
 use borrow.Author.Needs.{needs}
 use mathlib.Core.Path.{_≡_}
 use Prim.Native.Nat.{_≤_, _-_}
 use native.Mathlib.Omega.{arith}
 use lib.ListN.{length}
-use Rattle.compare_grids.proofs.files.check_open.Statement.{statement}
-use Rattle.compare_grids.proofs.files.check_open.Tie as tie
+use Rattle.passes.proofs.files.check_open.Statement.{statement}
+use Rattle.passes.proofs.files.check_open.Tie as tie
 
 abbrev Inv-loop : tie.InvT-loop
 Inv-loop fd buffer₀ look₀ reads₀ buffer look reads = (length buffer ≡ length buffer₀) × (reads ≤ 655365)

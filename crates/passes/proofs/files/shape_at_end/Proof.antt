@@ -1,4 +1,4 @@
--- `compare_grids::files::shape_at_end` meets its contract: a file that ends with no refusal has columns, as a header says them. Assumes nothing.
+-- `passes::files::shape_at_end` meets its contract: a file that ends with no refusal has columns, as a header says them. Assumes nothing.
 use borrow.Author.Needs.{needs}
 use borrow.Author.Tests.{eqb-true, eqb-false, ltb-true}
 use mathlib.Core.Path.{_≡_, refl, sym, ap, _∙_}
@@ -14,8 +14,8 @@ use Rattle.held.specs.declared.state.Reader.{Reader}
 use Rattle.held.specs.Held.{readerOf, stateOf}
 use Rattle.held.proofs.HeldLaws.{sound-of}
 use Rattle.reader.specs.Calls.{endedFrom, endReader}
-use Rattle.compare_grids.proofs.files.shape_at_end.Statement.{statement}
-use Rattle.compare_grids.proofs.files.shape_at_end.Tie as tie
+use Rattle.passes.proofs.files.shape_at_end.Statement.{statement}
+use Rattle.passes.proofs.files.shape_at_end.Tie as tie
 
 module _ (r : Reader) where
   by : (t : Bool) → eqb (ended (stateOf r)) 0 ≡ t → readerOf (cond t (stateOf r) (refusedAt (stateOf r) (ended (stateOf r)))) .code ≡ 0 → (0 < readerOf (cond t (stateOf r) (refusedAt (stateOf r) (ended (stateOf r)))) .columns) × (readerOf (cond t (stateOf r) (refusedAt (stateOf r) (ended (stateOf r)))) .columns ≤ 256) × (readerOf (cond t (stateOf r) (refusedAt (stateOf r) (ended (stateOf r)))) .rows ≤ 256)

@@ -1,2 +1,0 @@
--- What the program's own promises speak of.
-pub mod Shaped
