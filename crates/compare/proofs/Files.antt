@@ -11,6 +11,7 @@ use Rattle.ground.proofs.TestLaws.{both}
 use Rattle.grid.specs.declared.cells.MEStats.{MEStats}
 use Rattle.grid.specs.Grid.{Grid, statsAt, room}
 use Rattle.refusal.proofs.RefusalLaws.{none-of, passes}
+use Rattle.records.specs.Forms.{byteSides, oneSad}
 use Rattle.records.specs.Records.{cellRecord, headerRecord}
 use Rattle.records.specs.Numbers.{OfBytes}
 use Rattle.gridfile.specs.Writing.{cellRecords, fileOf}
@@ -23,17 +24,17 @@ use Rattle.compare.specs.Files.{ofFiles, SameFiles}
 use Rattle.compare.proofs.Places.{none-differ}
 
 -- grids with the same cells have the same file
-same-records : (f g : Grid) (n i : ℕ) → ((k : ℕ) → i ≤ k → k < i + n → statsAt f k ≡ statsAt g k) → cellRecords f i n ≡ cellRecords g i n
+same-records : (f g : Grid) (n i : ℕ) → ((k : ℕ) → i ≤ k → k < i + n → statsAt f k ≡ statsAt g k) → cellRecords oneSad f i n ≡ cellRecords oneSad g i n
 unfolding cellRecords
 same-records f g zero i same = refl
 same-records f g (suc n) i same =
-    ap₂ (λ (c : MEStats) (records : List ℕ). cellRecord c ++ records) (same i (omega arith) (omega arith))
+    ap₂ (λ (c : MEStats) (records : List ℕ). cellRecord oneSad c ++ records) (same i (omega arith) (omega arith))
     (same-records f g n (suc i) (λ k low high. same k (omega arith) (omega arith)))
 
 same-file : (columns rows : ℕ) (f g : Grid) → SameCells (columns * rows) f g → fileOf columns rows f ≡ fileOf columns rows g
 unfolding fileOf
 same-file columns rows f g same =
-    ap (λ (records : List ℕ). headerRecord columns rows ++ records) (same-records f g (columns * rows) 0 (λ k low high. same k (omega arith)))
+    ap (λ (records : List ℕ). headerRecord byteSides columns rows ++ records) (same-records f g (columns * rows) 0 (λ k low high. same k (omega arith)))
 
 module _ (file : List ℕ) (g : Grid) (other : List ℕ) (h : Grid) (bytes : OfBytes file) (other-bytes : OfBytes other) (code : ofFiles file g other h .code ≡ 0) where
   abbrev cells : ℕ

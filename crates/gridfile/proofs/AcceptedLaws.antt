@@ -11,8 +11,8 @@ use lib.ListN.{length, take, drop, length-append, take-append-drop}
 use lib.Seq.{length-take-le}
 use Rattle.ground.proofs.TestLaws.{tested}
 use Rattle.refusal.specs.Refusals.{refuse, _then_}
-use Rattle.records.specs.Records.{mark, cellBytes}
-use Rattle.gridfile.specs.Reading.{State, between, refusedAt, begun, marked, next, taken, whole, ended}
+use Rattle.records.specs.Forms.{mark, cellBytes}
+use Rattle.gridfile.specs.Reading.{State, headOf, between, refusedAt, begun, marked, next, taken, whole, ended}
 use Rattle.gridfile.proofs.TakenLaws.{refused-stays, first-byte, second-byte, at, at-wrong, at-more}
 
 -- a refusal is the answer, whatever follows
@@ -28,16 +28,16 @@ module _ (room columns rows k : ℕ) (wide : 0 < columns) (more : k < columns * 
   runs-out bytes = rw (lt-leb (columns * rows) k more) (rw (lt-ltb 0 columns wide))
 
   -- a wrong byte of the mark
-  pub wrong-mark : (bytes tail : List ℕ) (b : ℕ) → marked (length bytes) b ≡ false → ended (taken room (at room columns rows k wide more bytes) (b ∷ tail)) ≡ 10
+  pub wrong-mark : (bytes tail : List ℕ) (b : ℕ) → marked mark (length bytes) b ≡ false → ended (taken room (at room columns rows k wide more bytes) (b ∷ tail)) ≡ 10
   unfolding taken
   wrong-mark bytes tail b wrong =
       ap (λ (s : State). ended (taken room s tail)) (at-wrong room columns rows k wide more bytes b wrong)
       ∙ refused-ends room (at room columns rows k wide more bytes) 9 tail
 
   -- read to the end with 0, its record is whole and its mark is right
-  good : (bytes tail : List ℕ) (b : ℕ) → ended (taken room (at room columns rows k wide more bytes) (b ∷ tail)) ≡ 0 → marked (length bytes) b ≡ true
+  good : (bytes tail : List ℕ) (b : ℕ) → ended (taken room (at room columns rows k wide more bytes) (b ∷ tail)) ≡ 0 → marked mark (length bytes) b ≡ true
   good bytes tail b e =
-      ⊎-elim (λ ok. ok) (λ wrong. absurd (omega (arith, e, wrong-mark bytes tail b wrong))) (tested (marked (length bytes) b))
+      ⊎-elim (λ ok. ok) (λ wrong. absurd (omega (arith, e, wrong-mark bytes tail b wrong))) (tested (marked mark (length bytes) b))
 
   long : (bytes tail : List ℕ) → suc (length bytes) ≤ cellBytes → ended (taken room (at room columns rows k wide more bytes) tail) ≡ 0 → cellBytes ≤ length bytes + length tail
   unfolding taken
@@ -56,7 +56,7 @@ pub record Splits (bytes : List ℕ) : Type 0 where
   pub parts : bytes ≡ (mark ++ eight) ++ tail
 
 module _ (room columns rows k : ℕ) (wide : 0 < columns) (more : k < columns * rows) where
-  pub accepted-record : (bytes : List ℕ) → ended (taken room (between columns rows k) bytes) ≡ 0 → Splits bytes
+  pub accepted-record : (bytes : List ℕ) → ended (taken room (between (headOf columns rows) k) bytes) ≡ 0 → Splits bytes
   unfolding begun taken
   accepted-record [] e = absurd (omega (arith, long room columns rows k wide more [] [] (omega arith) e))
   accepted-record (a ∷ []) e = absurd (omega (arith, long room columns rows k wide more [] (a ∷ []) (omega arith) e))
@@ -74,16 +74,16 @@ module _ (room columns rows k : ℕ) (wide : 0 < columns) (more : k < columns * 
 
 -- after the last cell, a byte is one too many
 module _ (room columns rows : ℕ) (wide : 0 < columns) where
-  pub left-over : (b : ℕ) (bytes : List ℕ) → ended (taken room (between columns rows (columns * rows)) (b ∷ bytes)) ≡ 11
+  pub left-over : (b : ℕ) (bytes : List ℕ) → ended (taken room (between (headOf columns rows) (columns * rows)) (b ∷ bytes)) ≡ 11
   unfolding taken next
   left-over b bytes =
       ap (λ (s : State). ended (taken room s bytes)) (rw (ne-eqb columns 0 (λ e. absurd (omega arith))) (rw (le-ltb (columns * rows) (columns * rows) (omega arith))))
-      ∙ refused-ends room (between columns rows (columns * rows)) 10 bytes
+      ∙ refused-ends room (between (headOf columns rows) (columns * rows)) 10 bytes
 
-  pub all-there : ended (between columns rows (columns * rows)) ≡ 0
+  pub all-there : ended (between (headOf columns rows) (columns * rows)) ≡ 0
   unfolding ended whole refuse _then_
   all-there = rw (lt-ltb 0 columns wide) (rw (le-leb (columns * rows) (columns * rows) (omega arith)))
 
-  pub accepted-end : (bytes : List ℕ) → ended (taken room (between columns rows (columns * rows)) bytes) ≡ 0 → bytes ≡ []
+  pub accepted-end : (bytes : List ℕ) → ended (taken room (between (headOf columns rows) (columns * rows)) bytes) ≡ 0 → bytes ≡ []
   accepted-end [] e = refl
   accepted-end (b ∷ bytes) e = absurd (omega (arith, e, left-over b bytes))

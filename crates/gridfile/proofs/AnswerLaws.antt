@@ -8,11 +8,11 @@ use borrow.Author.Tests.{ne-eqb}
 use lib.Dec.{eqb}
 use lib.ListN.{length, getD, drop}
 use Rattle.grid.specs.Grid.{Grid, room}
-use Rattle.records.specs.Records.{headerBytes}
+use Rattle.records.specs.Forms.{headerBytes}
 use Rattle.gridfile.specs.declared.read.Shape.{Shape}
-use Rattle.gridfile.specs.Reading.{State, between, start, taken, kept, ended, readRefusal, shapeOf, readAnswer, readGrid}
+use Rattle.gridfile.specs.Reading.{State, headOf, between, start, taken, kept, ended, readRefusal, shapeOf, readAnswer, readGrid}
 use Rattle.gridfile.proofs.HeaderLaws.{headNumber}
-use Rattle.gridfile.proofs.OpenedLaws.{Opened, head-refused, opened}
+use Rattle.gridfile.proofs.OpenedLaws.{Opened, head-refused, opened, opened-keeps}
 use Rattle.gridfile.proofs.KeptLaws.{taken-columns, taken-rows, taken-free, kept-free}
 
 -- a number other than 0 is all that is answered
@@ -53,10 +53,10 @@ module _ (file : List ℕ) (space : ℕ) (fine : headNumber space file ≡ 0) wh
 -- and the cells behind it, where it is a lent grid that has the room
 module _ (file : List ℕ) (g : Grid) (fine : headNumber (room g) file ≡ 0) where
   abbrev pub at-cells : State
-  at-cells = between (getD file 2 0 + 1) (getD file 3 0 + 1) 0
+  at-cells = between (headOf (getD file 2 0 + 1) (getD file 3 0 + 1)) 0
 
-  cells-here : between (head file (room g) fine .c + 1) (head file (room g) fine .d + 1) 0 ≡ at-cells
-  cells-here = ap₂ (λ (c d : ℕ). between (c + 1) (d + 1) 0) (columns-here file (room g) fine) (rows-here file (room g) fine)
+  cells-here : between (headOf (head file (room g) fine .c + 1) (head file (room g) fine .d + 1)) 0 ≡ at-cells
+  cells-here = ap₂ (λ (c d : ℕ). between (headOf (c + 1) (d + 1)) 0) (columns-here file (room g) fine) (rows-here file (room g) fine)
 
   tail-here : head file (room g) fine .tail ≡ drop headerBytes file
   tail-here = sym (ap (drop headerBytes) (head file (room g) fine .parts))
@@ -72,12 +72,12 @@ module _ (file : List ℕ) (g : Grid) (fine : headNumber (room g) file ≡ 0) wh
     pub done-answer : readAnswer file g ≡ shapeOf 0 (getD file 2 0 + 1) (getD file 3 0 + 1)
     unfolding readAnswer
     done-answer =
-        ap₂ (λ (n : ℕ) (s : State). shapeOf n (s .columns) (s .rows)) (cells-number ∙ none) header-taken
+        ap₂ (λ (n : ℕ) (s : State). shapeOf n (s .head .columns) (s .head .rows)) (cells-number ∙ none) header-taken
         ∙ ap₂ (shapeOf 0) (taken-columns (room g) at-cells (drop headerBytes file) (omega arith)) (taken-rows (room g) at-cells (drop headerBytes file) (omega arith))
 
     pub done-grid : readGrid file g ≡ kept 0 at-cells (drop headerBytes file) g
     unfolding readGrid
     done-grid =
-        ap (λ (n : ℕ). cond (eqb n 0) (kept (room g) start file g) g) (cells-number ∙ none) ∙ head file (room g) fine .keeps g
+        ap (λ (n : ℕ). cond (eqb n 0) (kept (room g) start file g) g) (cells-number ∙ none) ∙ opened-keeps (head file (room g) fine) g
         ∙ ap₂ (λ (s : State) (bytes : List ℕ). kept (room g) s bytes g) cells-here tail-here
         ∙ kept-free (room g) 0 at-cells (drop headerBytes file) g (omega arith)

@@ -8,7 +8,7 @@ use Rattle.refusal.specs.Refusals.{refuse, _then_}
 use Rattle.records.specs.Numbers.{bytesOf, numberOf}
 use Rattle.records.specs.Records.{headerRecord, cellRecord, cellOf}
 use Rattle.gridfile.specs.Writing.{cellRecords, fileOf}
-use Rattle.gridfile.specs.Reading.{begun, marked, headerEnd, headerDone, cellDone, recordByte, next, taken, keep, kept, whole, ended, readRefusal, shapeOf, readAnswer, readGrid}
+use Rattle.gridfile.specs.Reading.{begun, marked, headerEnd, headerDone, cellDone, recordByte, headerByte, cellByte, next, taken, handed, emitted, withPlaced, kept, whole, ended, readRefusal, shapeOf, readAnswer, readGrid}
 
 -- two cells across and two down, each with row −24, col −24 and SAD 0
 abbrev components : List ℤ
@@ -35,9 +35,9 @@ abbrev lent : Grid
 lent = gridOf (pos 1 ∷ pos 2 ∷ pos 3 ∷ pos 4 ∷ []) (pos 5 ∷ pos 6 ∷ pos 7 ∷ pos 8 ∷ []) (9 ∷ 10 ∷ 11 ∷ 12 ∷ [])
 
 pub flat-answer : readAnswer flatFile lent ≡ record { code = 0; columns = 2; rows = 2 }
-unfolding readAnswer readRefusal shapeOf room taken next recordByte begun marked headerDone headerEnd cellDone whole ended refuse _then_
+unfolding readAnswer readRefusal shapeOf room taken next headerByte cellByte recordByte begun marked headerDone headerEnd cellDone whole ended refuse _then_
 flat-answer = refl
 
 pub flat-read : readGrid flatFile lent ≡ flat
-unfolding readGrid readRefusal room kept keep taken next recordByte begun marked headerDone headerEnd cellDone whole ended refuse _then_ withCell cellOf numberOf
+unfolding readGrid readRefusal room kept emitted handed withPlaced taken next headerByte cellByte recordByte begun marked headerDone headerEnd cellDone whole ended refuse _then_ withCell cellOf numberOf
 flat-read = refl

@@ -1,4 +1,5 @@
--- Writing then reading, reading then writing, and that an accepted file is the file of one grid. Assumes nothing.
+-- Writing then reading, reading then writing, and that an accepted file is the file of one grid, whose cells it hands out.
+-- Assumes nothing.
 use mathlib.Core.Path.{_≡_, sym, ap, ap₂, subst, subst₂, _∙_}
 use mathlib.Core.Bool.{true, cond}
 use mathlib.Core.List.{List, _++_}
@@ -13,14 +14,15 @@ use Rattle.motion.specs.Frame.{Side}
 use Rattle.grid.specs.Grid.{Grid, Held, cells, statsAt, room}
 use Rattle.refusal.specs.Refusals.{refuse, _then_, sideOk}
 use Rattle.refusal.proofs.RefusalLaws.{holds}
+use Rattle.records.specs.Forms.{plainForms}
 use Rattle.records.specs.Records.{headerRecord, fileBytes}
 use Rattle.gridfile.specs.declared.read.Shape.{Shape}
-use Rattle.gridfile.specs.Writing.{fileOf, writeRefusal, writtenOf, writeAnswer, writtenFile}
-use Rattle.gridfile.specs.Reading.{shapeOf, readAnswer, readGrid}
-use Rattle.gridfile.specs.Keeps.{SameCells, written, ReadsBack, WriteThenRead, WritesBack, ReadThenWrite, FileOf, OneGrid, Accepted}
+use Rattle.gridfile.specs.Writing.{fileOf, bytesFor, writeRefusal, writtenOf, writeAnswer, writtenFile}
+use Rattle.gridfile.specs.Reading.{start, emitted, shapeOf, readAnswer, readGrid}
+use Rattle.gridfile.specs.Keeps.{SameCells, written, ReadsBack, WriteThenRead, WritesBack, ReadThenWrite, FileOf, OneGrid, Accepted, placed, HandsOut}
 use Rattle.gridfile.proofs.WriteLaws.{Writes, writes, length-file}
 use Rattle.gridfile.proofs.KeptLaws.{same-room, read-lengths}
-use Rattle.gridfile.proofs.FileLaws.{Shaped, file-answer, file-inside, file-past}
+use Rattle.gridfile.proofs.FileLaws.{Shaped, file-answer, file-inside, file-past, file-emitted}
 use Rattle.gridfile.proofs.ReadLaws.{ReadFile, read-file}
 
 held-room : (width height : ℕ) (g : Grid) → Held width height g → cells width height ≤ room g
@@ -28,17 +30,23 @@ unfolding room
 held-room width height g h = omega arith
 
 -- a write that is not refused
-written-file : (width height : ℕ) (g : Grid) (file : List ℕ) → writeRefusal width height (room g) (length file) ≡ 0 → writtenFile width height g file ≡ fileOf (width / cellSide) (height / cellSide) g ++ drop (fileBytes (cells width height)) file
+written-file : (width height : ℕ) (g : Grid) (file : List ℕ) → writeRefusal width height (room g) (length file) ≡ 0 → writtenFile width height g file ≡ fileOf (width / cellSide) (height / cellSide) g ++ drop (bytesFor width height) file
 unfolding writtenFile
 written-file width height g file e =
-    ap (λ (n : ℕ). cond (eqb n 0) (fileOf (width / cellSide) (height / cellSide) g ++ drop (fileBytes (cells width height)) file) file) e
+    ap (λ (n : ℕ). cond (eqb n 0) (fileOf (width / cellSide) (height / cellSide) g ++ drop (bytesFor width height) file) file) e
+
+-- its answer says how many bytes
+answer-bytes : (width height : ℕ) (g : Grid) (file : List ℕ) → writeRefusal width height (room g) (length file) ≡ 0 → writeAnswer width height g file .bytes ≡ bytesFor width height
+unfolding writeAnswer writtenOf
+answer-bytes width height g file e = ap (λ (n : ℕ). cond (eqb n 0) (bytesFor width height) 0) e
 
 -- the first bytes are the grid's file
 written-is : (width height : ℕ) (g : Grid) (file : List ℕ) → writeRefusal width height (room g) (length file) ≡ 0 → written width height g file ≡ fileOf (width / cellSide) (height / cellSide) g
 unfolding cells
 written-is width height g file e =
-    ap (take (fileBytes (cells width height))) (written-file width height g file e)
-    ∙ take-at _ _ (fileBytes (cells width height)) (length-file (width / cellSide) (height / cellSide) g)
+    ap (λ (n : ℕ). take n (writtenFile width height g file)) (answer-bytes width height g file e)
+    ∙ ap (take (bytesFor width height)) (written-file width height g file e)
+    ∙ take-at _ _ (bytesFor width height) (length-file (width / cellSide) (height / cellSide) g)
 
 -- a frame's cells have even columns and rows
 shaped-of : (width height : ℕ) (g : Grid) → Side width → Side height → Held width height g → Shaped (room g) (width / cellSide) (height / cellSide)
@@ -82,8 +90,8 @@ cells-of columns rows = ap₂ _*_ (omega arith) (omega arith)
 
 -- the file of a grid is what is written of it
 module _ (file : List ℕ) (columns rows : ℕ) (g : Grid) (it : FileOf file columns rows g) (lent : List ℕ) (long : length file ≤ length lent) where
-  same-bytes : fileBytes (cells (cellSide * columns) (cellSide * rows)) ≡ length file
-  same-bytes = ap fileBytes (cells-of columns rows) ∙ sym (length-file columns rows g) ∙ ap length (it .bytes)
+  same-bytes : bytesFor (cellSide * columns) (cellSide * rows) ≡ length file
+  same-bytes = ap (fileBytes plainForms) (cells-of columns rows) ∙ sym (length-file columns rows g) ∙ ap length (it .bytes)
 
   done : writeRefusal (cellSide * columns) (cellSide * rows) (room g) (length lent) ≡ 0
   done = not-refused {file = lent} (record { wide = it .wide; high = it .high; held = it .held; room = omega (arith, same-bytes) })
@@ -157,3 +165,11 @@ unfolding shapeOf
 accepted file g ofBytes done =
     let it = read-file file g ofBytes done in
     subst (λ (a : Shape). OneGrid file (a .columns) (a .rows) (readGrid file g)) (sym (same-answer file g it)) (only-this file g it)
+
+pub hands-out : HandsOut
+unfolding shapeOf
+hands-out file g ofBytes done =
+    let it = read-file file g ofBytes done in
+    let last = readGrid file g in
+    subst (λ (a : Shape). emitted (room g) start file ≡ placed last 0 (a .columns * a .rows)) (sym (same-answer file g it))
+    (subst (λ (l : List ℕ). emitted (room g) start l ≡ placed last 0 (it .columns * it .rows)) (it .bytes) (file-emitted (it .columns) (it .rows) last g (it .shaped) (it .fits)))

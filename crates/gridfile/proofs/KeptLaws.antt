@@ -13,8 +13,10 @@ use lib.ListN.{length, length-set}
 use lib.Seq.{getD-set-same, getD-set-other}
 use Rattle.grid.specs.declared.cells.MEStats.{MEStats}
 use Rattle.grid.specs.Grid.{Grid, storedAt, statsAt, withCell, room}
+use Rattle.records.specs.Forms.{CellForm, mark}
 use Rattle.records.specs.Records.{cellOf}
-use Rattle.gridfile.specs.Reading.{State, start, refusedAt, begun, marked, headerEnd, headerDone, cellDone, recordByte, next, taken, keep, kept, readRefusal, readGrid}
+use Rattle.gridfile.specs.Reading.{State, headOf, start, refusedAt, begun, marked, headerEnd, headerDone, cellDone, cellShown, recordByte, headerByte, cellByte, next, taken, Placed, handed, emitted, keep, kept, readRefusal, readGrid}
+use Rattle.gridfile.proofs.EmittedLaws.{placed-same, keep-if, kept-none, kept-more}
 
 -- buffers as long as another grid's
 pub record SameLengths (h g : Grid) : Type 0 where
@@ -66,46 +68,46 @@ module _ (P : State → Type 0) where
   by-test false a b p q = q refl
 
   module _ (space : ℕ) (s : State) (byte : ℕ) (stays : P s) (refused : (n : ℕ) → P (refusedAt s n)) (begins : (bytes : List ℕ) → P (begun s bytes)) where
-    record-is : (size : ℕ) (done : State) → P done → P (recordByte size done s byte)
+    record-is : (mark : List ℕ) (size : ℕ) (done : State) → P done → P (recordByte mark size done s byte)
     unfolding recordByte
-    record-is size done ends =
-        by-test (marked (length (s .part)) byte) _ _
+    record-is mark size done ends =
+        by-test (marked mark (length (s .part)) byte) _ _
         (λ e. by-test (ltb (suc (length (s .part))) size) _ _ (λ e. begins (s .part ++ byte ∷ [])) (λ e. ends)) (λ e. refused 10)
 
-    pub next-is : (s .columns ≡ 0 → (columns rows : ℕ) → P (headerEnd space columns rows)) → (0 < s .columns → P (cellDone s)) → P (next space s byte)
-    unfolding next headerDone
+    pub next-is : (s .head .columns ≡ 0 → (columns rows : ℕ) → P (headerEnd space (headOf columns rows))) → (0 < s .head .columns → (form : CellForm) → P (cellDone s form)) → P (next space s byte)
+    unfolding next headerByte cellByte headerDone
     next-is header cell =
         by-test (eqb (s .code) 0) _ _
         (λ e.
-        by-test (eqb (s .columns) 0) _ _ (λ z. record-is _ _ (header (eqb-true (s .columns) 0 z) _ _))
-        (λ z. by-test (ltb (s .cells) (s .columns * s .rows)) _ _ (λ e. record-is _ _ (cell (omega (arith, eqb-false (s .columns) 0 z)))) (λ e. refused 11)))
+        by-test (eqb (s .head .columns) 0) _ _ (λ z. record-is _ _ _ (header (eqb-true (s .head .columns) 0 z) _ _))
+        (λ z. by-test (ltb (s .cells) (s .head .columns * s .head .rows)) _ _ (λ e. record-is _ _ _ (cell (omega (arith, eqb-false (s .head .columns) 0 z)) _)) (λ e. refused 11)))
         (λ e. stays)
 
 -- once the header has been read its columns and rows stay, and cells are only added
-module _ (space : ℕ) (s : State) (byte : ℕ) (read : 0 < s .columns) where
-  next-columns : next space s byte .columns ≡ s .columns
+module _ (space : ℕ) (s : State) (byte : ℕ) (read : 0 < s .head .columns) where
+  next-columns : next space s byte .head .columns ≡ s .head .columns
   unfolding refusedAt begun cellDone
   next-columns =
-      next-is (λ t. t .columns ≡ s .columns) space s byte refl (λ n. refl) (λ bytes. refl) (λ e. absurd (omega arith)) (λ e. refl)
+      next-is (λ t. t .head .columns ≡ s .head .columns) space s byte refl (λ n. refl) (λ bytes. refl) (λ e. absurd (omega arith)) (λ e form. refl)
 
-  next-rows : next space s byte .rows ≡ s .rows
+  next-rows : next space s byte .head .rows ≡ s .head .rows
   unfolding refusedAt begun cellDone
   next-rows =
-      next-is (λ t. t .rows ≡ s .rows) space s byte refl (λ n. refl) (λ bytes. refl) (λ e. absurd (omega arith)) (λ e. refl)
+      next-is (λ t. t .head .rows ≡ s .head .rows) space s byte refl (λ n. refl) (λ bytes. refl) (λ e. absurd (omega arith)) (λ e form. refl)
 
   next-cells : s .cells ≤ next space s byte .cells
   unfolding refusedAt begun cellDone
   next-cells =
-      next-is (λ t. s .cells ≤ t .cells) space s byte (omega arith) (λ n. omega arith) (λ bytes. omega arith) (λ e. absurd (omega arith)) (λ e. omega arith)
+      next-is (λ t. s .cells ≤ t .cells) space s byte (omega arith) (λ n. omega arith) (λ bytes. omega arith) (λ e. absurd (omega arith)) (λ e form. omega arith)
 
-pub taken-columns : (space : ℕ) (s : State) (bytes : List ℕ) → 0 < s .columns → taken space s bytes .columns ≡ s .columns
+pub taken-columns : (space : ℕ) (s : State) (bytes : List ℕ) → 0 < s .head .columns → taken space s bytes .head .columns ≡ s .head .columns
 unfolding taken
 taken-columns space s [] read = refl
 taken-columns space s (b ∷ bytes) read =
     let same = next-columns space s b read in
     taken-columns space (next space s b) bytes (omega (arith, same)) ∙ same
 
-pub taken-rows : (space : ℕ) (s : State) (bytes : List ℕ) → 0 < s .columns → taken space s bytes .rows ≡ s .rows
+pub taken-rows : (space : ℕ) (s : State) (bytes : List ℕ) → 0 < s .head .columns → taken space s bytes .head .rows ≡ s .head .rows
 unfolding taken
 taken-rows space s [] read = refl
 taken-rows space s (b ∷ bytes) read =
@@ -113,29 +115,34 @@ taken-rows space s (b ∷ bytes) read =
 
 -- and how many cells there is room for counts no more
 module _ (one other : ℕ) where
-  next-free : (s : State) (byte : ℕ) → 0 < s .columns → next one s byte ≡ next other s byte
+  next-free : (s : State) (byte : ℕ) → 0 < s .head .columns → next one s byte ≡ next other s byte
   unfolding next
-  next-free s byte read = rw (ne-eqb (s .columns) 0 (λ e. absurd (omega arith)))
+  next-free s byte read = rw (ne-eqb (s .head .columns) 0 (λ e. absurd (omega arith)))
 
-  keep-free : (s : State) (byte : ℕ) (g : Grid) → 0 < s .columns → keep one s byte g ≡ keep other s byte g
-  unfolding keep
-  keep-free s byte g read =
-      ap (λ (t : State). cond (ltb (s .cells) (t .cells)) (withCell (s .cells) (cellOf (s .part ++ byte ∷ [])) g) g) (next-free s byte read)
+  handed-free : (s : State) (byte : ℕ) → 0 < s .head .columns → handed one s byte ≡ handed other s byte
+  unfolding handed
+  handed-free s byte read =
+      let bytes = s .part ++ byte ∷ [] in
+      ap {B = List Placed} (λ (t : State). cond (ltb (s .cells) (t .cells)) (record { place = s .cells; cell = cellOf (cellShown s bytes) bytes } ∷ []) []) (next-free s byte read)
 
-  pub taken-free : (s : State) (bytes : List ℕ) → 0 < s .columns → taken one s bytes ≡ taken other s bytes
+  pub taken-free : (s : State) (bytes : List ℕ) → 0 < s .head .columns → taken one s bytes ≡ taken other s bytes
   unfolding taken
   taken-free s [] read = refl
   taken-free s (b ∷ bytes) read =
       ap (λ (t : State). taken one t bytes) (next-free s b read) ∙ taken-free (next other s b) bytes (omega (arith, next-columns other s b read))
 
-  pub kept-free : (s : State) (bytes : List ℕ) (g : Grid) → 0 < s .columns → kept one s bytes g ≡ kept other s bytes g
-  unfolding kept
-  kept-free s [] g read = refl
-  kept-free s (b ∷ bytes) g read =
-      ap₂ (λ (t : State) (h : Grid). kept one t bytes h) (next-free s b read) (keep-free s b g read)
-      ∙ kept-free (next other s b) bytes (keep other s b g) (omega (arith, next-columns other s b read))
+  emitted-free : (s : State) (bytes : List ℕ) → 0 < s .head .columns → emitted one s bytes ≡ emitted other s bytes
+  unfolding emitted
+  emitted-free s [] read = refl
+  emitted-free s (b ∷ bytes) read =
+      ap₂ (λ (ps : List Placed) (t : State). ps ++ emitted one t bytes) (handed-free s b read) (next-free s b read)
+      ∙ ap (λ (ps : List Placed). handed other s b ++ ps) (emitted-free (next other s b) bytes (omega (arith, next-columns other s b read)))
 
-pub taken-cells : (space : ℕ) (s : State) (bytes : List ℕ) → 0 < s .columns → s .cells ≤ taken space s bytes .cells
+  pub kept-free : (s : State) (bytes : List ℕ) (g : Grid) → 0 < s .head .columns → kept one s bytes g ≡ kept other s bytes g
+  unfolding kept
+  kept-free s bytes g read = placed-same (emitted-free s bytes read) g
+
+pub taken-cells : (space : ℕ) (s : State) (bytes : List ℕ) → 0 < s .head .columns → s .cells ≤ taken space s bytes .cells
 unfolding taken
 taken-cells space s [] read = omega arith
 taken-cells space s (b ∷ bytes) read =
@@ -143,10 +150,10 @@ taken-cells space s (b ∷ bytes) read =
     omega (arith, next-cells space s b read)
 
 -- before that no cell is added
-header-cells : (space : ℕ) (s : State) (byte : ℕ) → s .columns ≡ 0 → next space s byte .cells ≤ s .cells
+header-cells : (space : ℕ) (s : State) (byte : ℕ) → s .head .columns ≡ 0 → next space s byte .cells ≤ s .cells
 unfolding refusedAt begun headerEnd
 header-cells space s byte first =
-    next-is (λ t. t .cells ≤ s .cells) space s byte (omega arith) (λ n. omega arith) (λ bytes. omega arith) (λ e columns rows. omega arith) (λ e. absurd (omega arith))
+    next-is (λ t. t .cells ≤ s .cells) space s byte (omega arith) (λ n. omega arith) (λ bytes. omega arith) (λ e columns rows. omega arith) (λ e form. absurd (omega arith))
 
 lengths-if : (t : Bool) (h g : Grid) → SameLengths h g → SameLengths (cond t h g) g
 lengths-if true h g l = l
@@ -158,43 +165,44 @@ kept-if false h g j same = refl
 
 -- a byte changes the next cell at most
 module _ (space : ℕ) (s : State) (byte : ℕ) (g : Grid) where
-  keep-lengths : SameLengths (keep space s byte g) g
-  unfolding keep
-  keep-lengths = lengths-if (ltb (s .cells) (next space s byte .cells)) _ g (cell-lengths (s .cells) _ g)
+  pub keep-lengths : SameLengths (keep space s byte g) g
+  keep-lengths =
+      rw (keep-if space s byte g) (lengths-if (ltb (s .cells) (next space s byte .cells)) _ g (cell-lengths (s .cells) _ g))
 
   keep-other : (j : ℕ) → (s .cells < next space s byte .cells → j ≡ s .cells → ⊥) → statsAt (keep space s byte g) j ≡ statsAt g j
-  unfolding keep
   keep-other j other =
-      kept-if (ltb (s .cells) (next space s byte .cells)) _ g j
+      ap (λ (h : Grid). statsAt h j) (keep-if space s byte g)
+      ∙ kept-if (ltb (s .cells) (next space s byte .cells)) _ g j
       (λ e. cell-other (s .cells) _ g j (other (ltb-true (s .cells) (next space s byte .cells) e)))
 
 -- so bytes change no length
 pub kept-lengths : (space : ℕ) (s : State) (bytes : List ℕ) (g : Grid) → SameLengths (kept space s bytes g) g
-unfolding kept
-kept-lengths space s [] g = as-long g
+kept-lengths space s [] g = rw (kept-none space s g) (as-long g)
 kept-lengths space s (b ∷ bytes) g =
-    then-long (kept-lengths space (next space s b) bytes (keep space s b g)) (keep-lengths space s b g)
+    rw (kept-more space s b bytes g)
+    (then-long (kept-lengths space (next space s b) bytes (keep space s b g)) (keep-lengths space s b g))
 
 pub read-lengths : (file : List ℕ) (g : Grid) → SameLengths (readGrid file g) g
 unfolding readGrid
 read-lengths file g = lengths-if (eqb (readRefusal file g) 0) _ g (kept-lengths (room g) start file g)
 
 -- no cell that was whole before them
-pub kept-below : (space : ℕ) (s : State) (bytes : List ℕ) (g : Grid) (j : ℕ) → 0 < s .columns → j < s .cells → statsAt (kept space s bytes g) j ≡ statsAt g j
-unfolding kept
-kept-below space s [] g j read below = refl
+pub kept-below : (space : ℕ) (s : State) (bytes : List ℕ) (g : Grid) (j : ℕ) → 0 < s .head .columns → j < s .cells → statsAt (kept space s bytes g) j ≡ statsAt g j
+kept-below space s [] g j read below = ap (λ (h : Grid). statsAt h j) (kept-none space s g)
 kept-below space s (b ∷ bytes) g j read below =
-    kept-below space (next space s b) bytes (keep space s b g) j (omega (arith, next-columns space s b read)) (omega (arith, next-cells space s b read))
+    ap (λ (h : Grid). statsAt h j) (kept-more space s b bytes g)
+    ∙ kept-below space (next space s b) bytes (keep space s b g) j (omega (arith, next-columns space s b read)) (omega (arith, next-cells space s b read))
     ∙ keep-other space s b g j (λ more e. omega arith)
 
 -- and none past those that are whole after them
 pub kept-past : (space : ℕ) (s : State) (bytes : List ℕ) (g : Grid) (j : ℕ) → taken space s bytes .cells ≤ j → statsAt (kept space s bytes g) j ≡ statsAt g j
-unfolding taken kept
-kept-past space s [] g j past = refl
+unfolding taken
+kept-past space s [] g j past = ap (λ (h : Grid). statsAt h j) (kept-none space s g)
 kept-past space s (b ∷ bytes) g j past =
-    kept-past space (next space s b) bytes (keep space s b g) j past
+    ap (λ (h : Grid). statsAt h j) (kept-more space s b bytes g)
+    ∙ kept-past space (next space s b) bytes (keep space s b g) j past
     ∙ keep-other space s b g j
     (λ more e.
     ⊎-elim (λ z. omega (arith, header-cells space s b z))
     (λ p. omega (arith, taken-cells space (next space s b) bytes (omega (arith, next-columns space s b p))))
-    (eq-zero-or-pos (s .columns)))
+    (eq-zero-or-pos (s .head .columns)))

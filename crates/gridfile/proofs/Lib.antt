@@ -1,5 +1,6 @@
 -- Laws that several proofs cite, and the theorems of specs/Keeps.antt and Peek.antt.
 pub mod WriteLaws
+pub mod EmittedLaws
 pub mod TakenLaws
 pub mod AcceptedLaws
 pub mod HeaderLaws

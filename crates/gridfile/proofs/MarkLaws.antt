@@ -10,7 +10,7 @@ use mir.Syntax.{w8}
 use mir.Val.{Fits}
 use Rattle.ground.proofs.TestLaws.{both, not-so}
 use Rattle.ground.proofs.ListLaws.{take-drop}
-use Rattle.records.specs.Records.{mark, cellBytes}
+use Rattle.records.specs.Forms.{mark, cellBytes}
 use Rattle.records.specs.Numbers.{numberOf}
 use Rattle.records.proofs.NumberLaws.{two-bytes}
 use Rattle.gridfile.specs.Reading.{marked}
@@ -18,7 +18,7 @@ use Rattle.gridfile.proofs.TakenLaws.{first-byte, second-byte, first-ri
 
 -- whether it starts with the mark
 abbrev pub markedAt : List ℕ → ℕ → Bool
-markedAt bytes p = marked 0 (getD bytes p 0) && marked 1 (getD bytes (p + 1) 0)
+markedAt bytes p = marked mark 0 (getD bytes p 0) && marked mark 1 (getD bytes (p + 1) 0)
 
 -- both bytes at once
 module _ (bytes : List ℕ) (p n : ℕ) (fits : (i : ℕ) → Fits w8 (getD bytes i 0)) (there : p + 2 ≤ length bytes) (e : n ≡ numberOf (slice p (p + 2) bytes)) where
@@ -32,7 +32,7 @@ module _ (bytes : List ℕ) (p n : ℕ) (fits : (i : ℕ) → Fits w8 (getD byte
   pub mark-fails : (n ≡ 0x474C → ⊥) → markedAt bytes p ≡ false
   mark-fails h =
       not-so (markedAt bytes p) (λ ok.
-      let halves = both (marked 0 (getD bytes p 0)) (marked 1 (getD bytes (p + 1) 0)) ok in
+      let halves = both (marked mark 0 (getD bytes p 0)) (marked mark 1 (getD bytes (p + 1) 0)) ok in
       h (omega (arith, e, two-bytes bytes p there, first-byte _ (halves .0), second-byte _ (halves .1))))
 
 -- a cell's record all of whose bytes are there
@@ -56,7 +56,7 @@ module _ (bytes : List ℕ) (p : ℕ) (there : p + cellBytes ≤ length bytes) w
   module _ (ok : markedAt bytes p ≡ true) where
     pub record-at : drop p bytes ≡ (mark ++ eight) ++ behind
     record-at =
-        let halves = both (marked 0 (getD bytes p 0)) (marked 1 (getD bytes (p + 1) 0)) ok in
+        let halves = both (marked mark 0 (getD bytes p 0)) (marked mark 1 (getD bytes (p + 1) 0)) ok in
         two-eight ∙ ap₂ (λ (a b : ℕ). a ∷ b ∷ (eight ++ behind)) (first-byte _ (halves .0)) (second-byte _ (halves .1))
 
     pub record-bytes : slice p (p + cellBytes) bytes ≡ mark ++ eight

@@ -6,9 +6,9 @@ use native.Mathlib.Nat.{mul-le-mul}
 use native.Mathlib.Omega.{arith}
 use lib.ListN.{length, getD}
 use Rattle.grid.specs.Grid.{Grid, room}
-use Rattle.records.specs.Numbers.{OfBytes}
-use Rattle.records.specs.Records.{headerRecord, mostCells, fileBytes}
-use Rattle.gridfile.specs.Reading.{marked, taken, readRefusal, shapeOf, readAnswer, readGrid}
+use Rattle.records.specs.Forms.{plainForms, mostCells}
+use Rattle.records.specs.Records.{headerRecord, fileBytes}
+use Rattle.gridfile.specs.Reading.{headOf, marked, taken, readRefusal, shapeOf, readGrid}
 use Rattle.gridfile.specs.Writing.{fileOf}
 use Rattle.gridfile.specs.Peek.{peekRefusal, peekOf, peekAnswer, PeekTells}
 use Rattle.gridfile.proofs.HeaderLaws.{stateNumber, headNumber, fourth-taken, number-ended, none-wrong}
@@ -35,7 +35,7 @@ module _ (file : List ℕ) (g : Grid) (it : ReadFile file g) where
   unfolding fileOf headerRecord
   rows-byte = omega (arith, ap (λ (l : List ℕ). getD l 3 0) (it .bytes), it .shaped .high)
 
-  all-bytes : fileBytes (it .columns * it .rows) ≡ length file
+  all-bytes : fileBytes plainForms (it .columns * it .rows) ≡ length file
   all-bytes = sym (length-file (it .columns) (it .rows) (readGrid file g)) ∙ ap length (it .bytes)
 
 pub peek-tells : PeekTells
@@ -46,5 +46,5 @@ peek-tells file g ofBytes done =
     let cells : (getD file 2 0 + 1) * (getD file 3 0 + 1) ≡ it .columns * it .rows = ap₂ _*_ (columns-byte file g it) (rows-byte file g it) in
     let fine = head-fine file (accepted-header (room g) file done) (mostCells * mostCells) (omega arith) in
     let same = same-answer file g it in
-    (λ i. peekOf (fine i) (columns-byte file g it i) (rows-byte file g it i))
+    (λ i. peekOf (fine i) (headOf (columns-byte file g it i) (rows-byte file g it i)))
     ∙ λ i. record { code = 0; columns = sym same i .columns; rows = sym same i .rows; bytes = all-bytes file g it i }

@@ -1,15 +1,15 @@
 -- What writing and reading do together.
 use mathlib.Core.Path.{_≡_}
-use mathlib.Core.List.{List, _++_}
-use Prim.Native.Nat.{ℕ, _*_, _/_, _≤_, _<_}
-use lib.ListN.{length, getD, take, drop}
+use mathlib.Core.List.{List, [], _∷_, _++_}
+use Prim.Native.Nat.{ℕ, zero, suc, _*_, _/_, _≤_, _<_}
+use lib.ListN.{length, take, drop}
 use Rattle.motion.specs.Limits.{cellSide}
 use Rattle.motion.specs.Frame.{Side}
 use Rattle.grid.specs.Grid.{Grid, Held, cells, room, statsAt}
 use Rattle.records.specs.Numbers.{OfBytes}
-use Rattle.records.specs.Records.{FitsCell, fileBytes}
+use Rattle.records.specs.Records.{FitsCell}
 use Rattle.gridfile.specs.Writing.{fileOf, writeRefusal, writtenOf, writeAnswer, writtenFile}
-use Rattle.gridfile.specs.Reading.{readRefusal, shapeOf, readAnswer, readGrid}
+use Rattle.gridfile.specs.Reading.{start, Placed, emitted, readRefusal, shapeOf, readAnswer, readGrid}
 
 -- the numbers of a grid's first n cells, as its buffers hold them
 abbrev pub FitsCells : ℕ → Grid → Type 0
@@ -24,7 +24,7 @@ SamePast n g h = (i : ℕ) → n ≤ i → statsAt g i ≡ statsAt h i
 
 -- the bytes that a write without a refusal leaves
 abbrev pub written : (width height : ℕ) (g : Grid) (file : List ℕ) → List ℕ
-written width height g file = take (fileBytes (cells width height)) (writtenFile width height g file)
+written width height g file = take (writeAnswer width height g file .bytes) (writtenFile width height g file)
 
 -- writing then reading gives the same grid, with 0, and the cells past it stay
 pub record ReadsBack (width height : ℕ) (g : Grid) (file : List ℕ) (lent : Grid) : Type 0 where
@@ -61,3 +61,13 @@ pub record OneGrid (file : List ℕ) (columns rows : ℕ) (g : Grid) : Type 0 wh
 abbrev pub Accepted : Type 0
 Accepted =
     (file : List ℕ) (g : Grid) → OfBytes file → readRefusal file g ≡ 0 → OneGrid file (readAnswer file g .columns) (readAnswer file g .rows) (readGrid file g)
+
+-- so many cells of a grid from one on, each with its place
+unfoldable pub placed : Grid → (i n : ℕ) → List Placed
+placed g i zero = []
+placed g i (suc n) = record { place = i; cell = statsAt g i } ∷ placed g (suc i) n
+
+-- an accepted file hands out the cells of the grid that is read, each once, in raster order
+abbrev pub HandsOut : Type 0
+HandsOut =
+    (file : List ℕ) (g : Grid) → OfBytes file → readRefusal file g ≡ 0 → emitted (room g) start file ≡ placed (readGrid file g) 0 (readAnswer file g .columns * readAnswer file g .rows)

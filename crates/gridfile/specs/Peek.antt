@@ -1,36 +1,36 @@
 -- A look at a file's header, so that a grid can be made ready for it.
 use mathlib.Core.Bool.{cond}
 use mathlib.Core.List.{List}
-use Prim.Native.Nat.{ℕ, _+_, _*_}
+use Prim.Native.Nat.{ℕ}
 use lib.Dec.{ltb, eqb}
-use lib.ListN.{length, getD, take}
+use lib.ListN.{length, take}
 use Rattle.grid.specs.Grid.{Grid}
 use Rattle.refusal.specs.Refusals.{refuse, _then_}
 use Rattle.records.specs.Numbers.{OfBytes}
-use Rattle.records.specs.Records.{headerBytes, mostCells, fileBytes}
+use Rattle.records.specs.Forms.{headerSize}
+use Rattle.records.specs.Records.{mostFileCells, fileBytes}
 use Rattle.gridfile.specs.declared.read.Peek.{Peek}
-use Rattle.gridfile.specs.Reading.{start, taken, readRefusal, readAnswer}
+use Rattle.gridfile.specs.Reading.{Head, headCells, start, headerShown, headSaid, taken, readRefusal, readAnswer}
 use mathlib.Core.Path.{_≡_}
 
 -- the refusals of a header, with room for any that there is: 10, 12, and 11 where its bytes run out
 unfoldable pub peekRefusal : List ℕ → ℕ
 peekRefusal file =
-    let head = taken (mostCells * mostCells) start (take headerBytes file) in
-    head .code then refuse 11 (ltb 0 (head .columns))
+    let last = taken mostFileCells start (take (headerSize (headerShown file)) file) in
+    last .code then refuse 11 (ltb 0 (last .head .columns))
 
 -- the refusal, columns and rows of cells, and how many bytes the whole file has: 0 in a refusal
-unfoldable pub peekOf : (number columns rows : ℕ) → Peek
-peekOf number columns rows =
+unfoldable pub peekOf : (number : ℕ) (head : Head) → Peek
+peekOf number head =
     record {
       code = number;
-      columns = cond (eqb number 0) columns 0;
-      rows = cond (eqb number 0) rows 0;
-      bytes = cond (eqb number 0) (fileBytes (columns * rows)) 0;
+      columns = cond (eqb number 0) (head .columns) 0;
+      rows = cond (eqb number 0) (head .rows) 0;
+      bytes = cond (eqb number 0) (fileBytes (head .forms) (headCells head)) 0;
     }
 
--- the third byte is columns−1, the fourth rows−1
 unfoldable pub peekAnswer : List ℕ → Peek
-peekAnswer file = peekOf (peekRefusal file) (getD file 2 0 + 1) (getD file 3 0 + 1)
+peekAnswer file = peekOf (peekRefusal file) (headSaid (headerShown file) file)
 
 -- of every accepted file a look tells the shape that reading gives, and its length
 abbrev pub PeekTells : Type 0

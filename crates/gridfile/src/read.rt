@@ -14,8 +14,9 @@ ghost use lib.Dec.{ltb};
 ghost use Rattle.ground.specs.Every.{allBelow};
 ghost use Rattle.grid.specs.Lent.{entryGrid, exitGrid};
 ghost use Rattle.refusal.specs.Refusals.{refuse, _then_};
-ghost use Rattle.records.specs.Records.{headerBytes, mostCells, fileBytes};
-ghost use Rattle.gridfile.specs.Reading.{marked, headerEnd, between, start, taken, kept, ended};
+ghost use Rattle.records.specs.Forms.{plainForms, mark, headerBytes, mostCells};
+ghost use Rattle.records.specs.Records.{fileBytes};
+ghost use Rattle.gridfile.specs.Reading.{headOf, marked, headerEnd, between, start, taken, kept, ended};
 
 // 0 or a refusal, and columns and rows of cells.
 #[repr(C)]
@@ -37,7 +38,7 @@ pub struct Peek {
 // A mark of which bytes may be missing.
 fn mark_refusal(file: &[u8], at: usize) -> u32
     requires { ⌜ at ≤ length (now file) ⌝ }
-    ensures { λ r. ⌜ r ≡ (refuse 11 (ltb at (length (now (file .entry)))) then refuse 10 (marked 0 (getD (now (file .entry)) at 0)) then refuse 11 (ltb (at + 1) (length (now (file .entry)))) then refuse 10 (marked 1 (getD (now (file .entry)) (at + 1) 0))) ⌝ }
+    ensures { λ r. ⌜ r ≡ (refuse 11 (ltb at (length (now (file .entry)))) then refuse 10 (marked mark 0 (getD (now (file .entry)) at 0)) then refuse 11 (ltb (at + 1) (length (now (file .entry)))) then refuse 10 (marked mark 1 (getD (now (file .entry)) (at + 1) 0))) ⌝ }
 {
     if file.len() <= at {
         return 11;
@@ -57,7 +58,7 @@ fn mark_refusal(file: &[u8], at: usize) -> u32
 // The tests at a header's end: 12, then 13.
 pub fn end_refusal(room: usize, columns: usize, rows: usize) -> u32
     requires { ⌜ (columns ≤ mostCells) × (rows ≤ mostCells) ⌝ }
-    ensures { λ r. ⌜ r ≡ headerEnd room columns rows .code ⌝ }
+    ensures { λ r. ⌜ r ≡ headerEnd room (headOf columns rows) .code ⌝ }
 {
     if columns % 2 != 0 {
         return 12;
@@ -73,7 +74,7 @@ pub fn end_refusal(room: usize, columns: usize, rows: usize) -> u32
 
 // The header: refusals 10, 11, 12 and 13, from the front.
 pub(crate) fn header_refusal(file: &[u8], room: usize) -> u32
-    ensures { λ r. ⌜ r ≡ (taken room start (take headerBytes (now (file .entry))) .code then refuse 11 (ltb 0 (taken room start (take headerBytes (now (file .entry))) .columns))) ⌝ }
+    ensures { λ r. ⌜ r ≡ (taken room start (take headerBytes (now (file .entry))) .code then refuse 11 (ltb 0 (taken room start (take headerBytes (now (file .entry))) .head .columns))) ⌝ }
 {
     let code = mark_refusal(file, 0);
     if code != 0 {
@@ -87,8 +88,8 @@ pub(crate) fn header_refusal(file: &[u8], room: usize) -> u32
 
 // Whether the first `count` cell records, all of whose bytes are there, start with the mark.
 fn marks_hold(file: &[u8], count: usize) -> bool
-    requires { ⌜ fileBytes count ≤ length (now file) ⌝ }
-    ensures { λ r. ⌜ r ≡ allBelow count (λ i. marked 0 (getD (now (file .entry)) (fileBytes i) 0) && marked 1 (getD (now (file .entry)) (fileBytes i + 1) 0)) ⌝ }
+    requires { ⌜ fileBytes plainForms count ≤ length (now file) ⌝ }
+    ensures { λ r. ⌜ r ≡ allBelow count (λ i. marked mark 0 (getD (now (file .entry)) (fileBytes plainForms i) 0) && marked mark 1 (getD (now (file .entry)) (fileBytes plainForms i + 1) 0)) ⌝ }
 {
     let mut i = 0;
     while i < count {
@@ -103,7 +104,7 @@ fn marks_hold(file: &[u8], count: usize) -> bool
 // The cells, and bytes left over: refusals 10 and 11, from the front.
 pub(crate) fn cells_refusal(file: &[u8], columns: usize, rows: usize) -> u32
     requires { ⌜ (headerBytes ≤ length (now file)) × (0 < columns) × (columns ≤ 256) × (rows ≤ 256) ⌝ }
-    ensures { λ r. ⌜ r ≡ ended (taken 0 (between columns rows 0) (drop headerBytes (now (file .entry)))) ⌝ }
+    ensures { λ r. ⌜ r ≡ ended (taken 0 (between (headOf columns rows) 0) (drop headerBytes (now (file .entry)))) ⌝ }
 {
     let count = columns * rows;
     let there = (file.len() - HEADER_BYTES) / CELL_BYTES;
@@ -134,9 +135,9 @@ pub(crate) fn get_cells(
     cols: &mut [i16],
     sads: &mut [u32],
 )
-    requires { ⌜ (headerBytes ≤ length (now file)) × (0 < columns) × (columns ≤ 256) × (down ≤ 256) × (ended (taken 0 (between columns down 0) (drop headerBytes (now file))) ≡ 0) ⌝ }
+    requires { ⌜ (headerBytes ≤ length (now file)) × (0 < columns) × (columns ≤ 256) × (down ≤ 256) × (ended (taken 0 (between (headOf columns down) 0) (drop headerBytes (now file))) ≡ 0) ⌝ }
     requires { ⌜ (columns * down ≤ length (now rows)) × (columns * down ≤ length (now cols)) × (columns * down ≤ length (now sads)) ⌝ }
-    ensures { λ r. ⌜ exitGrid rows cols sads ≡ kept 0 (between columns down 0) (drop headerBytes (now (file .entry))) (entryGrid rows cols sads) ⌝ }
+    ensures { λ r. ⌜ exitGrid rows cols sads ≡ kept 0 (between (headOf columns down) 0) (drop headerBytes (now (file .entry))) (entryGrid rows cols sads) ⌝ }
 {
     let count = columns * down;
     let mut i = 0;

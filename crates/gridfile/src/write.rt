@@ -10,7 +10,8 @@ ghost use Prim.Native.Nat.{_%_, _≤_};
 ghost use lib.ListN.{length};
 ghost use lib.Seq.{sets};
 ghost use Rattle.grid.specs.Lent.{entryGrid};
-ghost use Rattle.records.specs.Records.{headerBytes, fileBytes};
+ghost use Rattle.records.specs.Forms.{oneSad, plainForms, headerBytes};
+ghost use Rattle.records.specs.Records.{fileBytes};
 ghost use Rattle.gridfile.specs.Writing.{cellRecords, writeRefusal};
 
 // 0 or a refusal, and how many bytes the file has.
@@ -41,8 +42,8 @@ pub(crate) fn write_refusal(width: usize, height: usize, room: usize, bytes: usi
 
 // The records of the first `count` cells, behind the header, two a turn.
 pub(crate) fn put_cells(count: usize, rows: &[i16], cols: &[i16], sads: &[u32], file: &mut [u8])
-    requires { ⌜ (count ≤ length (now rows)) × (count ≤ length (now cols)) × (count ≤ length (now sads)) × (fileBytes count ≤ length (now file)) × (count % 2 ≡ 0) ⌝ }
-    ensures { λ r. ⌜ now (file .exit) ≡ sets (now (file .entry)) headerBytes (cellRecords (entryGrid rows cols sads) 0 count) ⌝ }
+    requires { ⌜ (count ≤ length (now rows)) × (count ≤ length (now cols)) × (count ≤ length (now sads)) × (fileBytes plainForms count ≤ length (now file)) × (count % 2 ≡ 0) ⌝ }
+    ensures { λ r. ⌜ now (file .exit) ≡ sets (now (file .entry)) headerBytes (cellRecords oneSad (entryGrid rows cols sads) 0 count) ⌝ }
 {
     let mut i = 0;
     while i < count {

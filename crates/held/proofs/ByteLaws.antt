@@ -8,8 +8,8 @@ use native.Mathlib.Omega.{arith}
 use borrow.Author.Tests.{lt-ltb, le-ltb, eq-eqb, ne-eqb}
 use lib.ListN.{length, getD, take, set, replicate, length-append, List·getD-append}
 use lib.Seq.{set-at, append-snoc, getD-take, getD-at}
-use Rattle.records.specs.Records.{headerBytes, cellBytes}
-use Rattle.gridfile.specs.Reading.{State, begun, refusedAt, marked, headerDone, headerEnd, cellDone, recordByte, next}
+use Rattle.records.specs.Forms.{oneSad, mark, headerBytes, cellBytes}
+use Rattle.gridfile.specs.Reading.{State, headOf, begun, refusedAt, marked, headerDone, headerEnd, cellDone, recordByte, headerByte, cellByte, next}
 use Rattle.gridfile.proofs.TakenLaws.{byte-wrong, byte-more, byte-last}
 use Rattle.held.specs.declared.state.Reader.{Reader}
 use Rattle.held.specs.Held.{plain, partBytes, readerOf, stateOf}
@@ -46,36 +46,36 @@ module _ (r : Reader) (o : Open r) where
       ∙ ap (λ (s : State). readerOf (begun s (s .part ++ b ∷ []))) (sym (o .state))
 
   -- a byte of a record of so many bytes
-  module _ (room b size : ℕ) (done : State) (step : next room (stateOf r) b ≡ recordByte size done held-state b) where
-    place : (t : Bool) → marked (r .held) b ≡ t → marked (length (held-state .part)) b ≡ t
+  module _ (room b size : ℕ) (done : State) (step : next room (stateOf r) b ≡ recordByte mark size done held-state b) where
+    place : (t : Bool) → marked mark (r .held) b ≡ t → marked mark (length (held-state .part)) b ≡ t
     unfolding begun
-    place t e = ap (λ (n : ℕ). marked n b) (o .long) ∙ e
+    place t e = ap (λ (n : ℕ). marked mark n b) (o .long) ∙ e
 
-    pub by-wrong : marked (r .held) b ≡ false → readerOf (plain 10 (r .columns) (r .rows) (r .cells)) ≡ readerOf (next room (stateOf r) b)
+    pub by-wrong : marked mark (r .held) b ≡ false → readerOf (plain 10 (r .columns) (r .rows) (r .cells)) ≡ readerOf (next room (stateOf r) b)
     unfolding refusedAt begun
-    by-wrong wrong = sym (ap readerOf (step ∙ byte-wrong size done held-state b (place false wrong)))
+    by-wrong wrong = sym (ap readerOf (step ∙ byte-wrong mark size done held-state b (place false wrong)))
 
-    pub by-more : marked (r .held) b ≡ true → suc (r .held) < size → readerOf (begun (stateOf r) (stateOf r .part ++ b ∷ [])) ≡ readerOf (next room (stateOf r) b)
+    pub by-more : marked mark (r .held) b ≡ true → suc (r .held) < size → readerOf (begun (stateOf r) (stateOf r .part ++ b ∷ [])) ≡ readerOf (next room (stateOf r) b)
     unfolding begun
     by-more ok left =
         ap (λ (s : State). readerOf (begun s (s .part ++ b ∷ []))) (o .state)
-        ∙ sym (ap readerOf (step ∙ byte-more size done held-state b (place true ok) (omega (arith, o .long))))
+        ∙ sym (ap readerOf (step ∙ byte-more mark size done held-state b (place true ok) (omega (arith, o .long))))
 
-    pub by-last : marked (r .held) b ≡ true → suc (r .held) ≡ size → readerOf done ≡ readerOf (next room (stateOf r) b)
+    pub by-last : marked mark (r .held) b ≡ true → suc (r .held) ≡ size → readerOf done ≡ readerOf (next room (stateOf r) b)
     unfolding begun
-    by-last ok full = sym (ap readerOf (step ∙ byte-last size done held-state b (place true ok) (ap suc (o .long) ∙ full)))
+    by-last ok full = sym (ap readerOf (step ∙ byte-last mark size done held-state b (place true ok) (ap suc (o .long) ∙ full)))
 
   -- a byte of the header
   module _ (room b : ℕ) (first : r .columns ≡ 0) where
-    pub head-next : next room (stateOf r) b ≡ recordByte headerBytes (headerDone room (bytes ++ b ∷ [])) held-state b
-    unfolding next begun
+    pub head-next : next room (stateOf r) b ≡ recordByte mark headerBytes (headerDone room (bytes ++ b ∷ [])) held-state b
+    unfolding next headerByte begun
     head-next = ap (λ (s : State). next room s b) (o .state) ∙ rw (eq-eqb (r .columns) 0 first)
 
     -- its last: columns stand in the third, rows in the fourth
-    pub head-done : r .held ≡ 3 → headerDone room (bytes ++ b ∷ []) ≡ headerEnd room (getD (r .part) 2 0 + 1) (b + 1)
+    pub head-done : r .held ≡ 3 → headerDone room (bytes ++ b ∷ []) ≡ headerEnd room (headOf (getD (r .part) 2 0 + 1) (b + 1))
     unfolding headerDone
     head-done full =
-        ap₂ (λ (c d : ℕ). headerEnd room (c + 1) (d + 1))
+        ap₂ (λ (c d : ℕ). headerEnd room (headOf (c + 1) (d + 1)))
         (List·getD-append bytes (b ∷ []) 0 2 (omega (arith, o .long)) ∙ getD-take (r .held) (r .part) 2 0 (omega arith))
         (getD-at bytes b [] 0 3 (o .long ∙ full))
 
@@ -87,12 +87,12 @@ module _ (r : Reader) (o : Open r) where
         sym (ap (λ (s : State). readerOf (next room s b)) (o .state)
         ∙ rw (ne-eqb (r .columns) 0 (λ e. absurd (omega arith))) (rw (le-ltb (r .cells) (r .columns * r .rows) all)))
 
-    pub cell-next : r .cells < r .columns * r .rows → next room (stateOf r) b ≡ recordByte cellBytes (cellDone held-state) held-state b
-    unfolding next begun
+    pub cell-next : r .cells < r .columns * r .rows → next room (stateOf r) b ≡ recordByte mark cellBytes (cellDone held-state oneSad) held-state b
+    unfolding next cellByte begun
     cell-next more =
         ap (λ (s : State). next room s b) (o .state)
         ∙ rw (ne-eqb (r .columns) 0 (λ e. absurd (omega arith))) (rw (lt-ltb (r .cells) (r .columns * r .rows) more))
 
-    pub cell-done : plain 0 (r .columns) (r .rows) (suc (r .cells)) ≡ cellDone held-state
+    pub cell-done : plain 0 (r .columns) (r .rows) (suc (r .cells)) ≡ cellDone held-state oneSad
     unfolding cellDone begun
     cell-done = refl

@@ -10,8 +10,8 @@ use lib.Dec.{leb, ltb, eqb}
 use lib.ListN.{length, take, replicate, length-take}
 use lib.Seq.{length-take-le}
 use Rattle.ground.proofs.TestLaws.{tested, both}
-use Rattle.gridfile.specs.Reading.{between, begun, refusedAt}
-use Rattle.records.specs.Records.{mostCells}
+use Rattle.gridfile.specs.Reading.{headOf, between, begun, refusedAt}
+use Rattle.records.specs.Forms.{plainForms, mostCells}
 use Rattle.held.specs.declared.state.Reader.{Reader}
 use Rattle.held.specs.Held.{plain, partBytes, readerOf, recordBytes, shaped, stateOf, Settled}
 use Rattle.held.proofs.HeldLaws.{some-bytes}
@@ -20,7 +20,7 @@ use Rattle.held.proofs.HeldLaws.{some-bytes}
 pub record Open (r : Reader) : Type 0 where
   pub wide : r .columns ≤ mostCells
   pub high : r .rows ≤ mostCells
-  pub few : suc (r .held) ≤ recordBytes (r .columns)
+  pub few : suc (r .held) ≤ recordBytes (r .columns) plainForms
   pub long : length (take (r .held) (r .part)) ≡ r .held
   pub tidy : take (r .held) (r .part) ++ replicate (partBytes - r .held) 0 ≡ r .part
   pub state : stateOf r ≡ begun (plain 0 (r .columns) (r .rows) (r .cells)) (take (r .held) (r .part))
@@ -36,7 +36,7 @@ module _ (r : Reader) where
   number-stays some = rw (ne-eqb (r .code) 0 some)
 
   module _ (none : r .code ≡ 0) where
-    by-shape : (t : Bool) → shaped (r .columns) (r .rows) ≡ t → stateOf r ≡ cond t (begun (plain 0 (r .columns) (r .rows) (r .cells)) (take (min (r .held) (recordBytes (r .columns) - 1)) (r .part))) (plain 12 (r .columns) (r .rows) (r .cells))
+    by-shape : (t : Bool) → shaped (headOf (r .columns) (r .rows)) ≡ t → stateOf r ≡ cond t (begun (plain 0 (r .columns) (r .rows) (r .cells)) (take (min (r .held) (recordBytes (r .columns) plainForms - 1)) (r .part))) (plain 12 (r .columns) (r .rows) (r .cells))
     unfolding stateOf refusedAt begun
     by-shape t e = rw (eq-eqb (r .code) 0 none) (rw e (rw none))
 
@@ -48,7 +48,7 @@ module _ (r : Reader) where
     unfolding shaped
     stands-high h = sym (ap readerOf (by-shape false (ap (λ (t : Bool). leb (r .columns) mostCells && t) (lt-leb (r .rows) mostCells h) ∙ and-false (leb (r .columns) mostCells))))
 
-    pub stands-open : r .columns ≤ mostCells → r .rows ≤ mostCells → stateOf r ≡ begun (plain 0 (r .columns) (r .rows) (r .cells)) (take (min (r .held) (recordBytes (r .columns) - 1)) (r .part))
+    pub stands-open : r .columns ≤ mostCells → r .rows ≤ mostCells → stateOf r ≡ begun (plain 0 (r .columns) (r .rows) (r .cells)) (take (min (r .held) (recordBytes (r .columns) plainForms - 1)) (r .part))
     unfolding shaped
     stands-open wide high = by-shape true (ap₂ _&&_ (le-leb (r .columns) mostCells wide) (le-leb (r .rows) mostCells high))
 
@@ -65,18 +65,18 @@ with-bytes columns rows cells n part l h e =
 
 module _ (r : Reader) (settled : Settled r) (none : r .code ≡ 0) where
   abbrev most : ℕ
-  most = recordBytes (r .columns) - 1
+  most = recordBytes (r .columns) plainForms - 1
 
   abbrev first : List ℕ
   first = take (min (r .held) most) (r .part)
 
   -- refused with 12 it would have that number
-  shape : shaped (r .columns) (r .rows) ≡ true
+  shape : shaped (headOf (r .columns) (r .rows)) ≡ true
   unfolding readerOf
   shape =
       ⊎-elim (λ e. e)
       (λ e. absurd (omega (arith, ap (λ (x : Reader). x .code) (sym settled ∙ ap readerOf (by-shape r none false e)))))
-      (tested (shaped (r .columns) (r .rows)))
+      (tested (shaped (headOf (r .columns) (r .rows))))
 
   stands : stateOf r ≡ begun (plain 0 (r .columns) (r .rows) (r .cells)) first
   stands = by-shape r none true shape
@@ -104,7 +104,7 @@ module _ (r : Reader) (settled : Settled r) (none : r .code ≡ 0) where
       record {
         wide = leb-true (r .columns) mostCells (halves .0);
         high = leb-true (r .rows) mostCells (halves .1);
-        few = omega (arith, fewer, some-bytes (r .columns));
+        few = omega (arith, fewer, some-bytes (r .columns) plainForms);
         long = sym (ap length whole) ∙ counted;
         tidy = sym (ap₂ (λ (bytes : List ℕ) (n : ℕ). bytes ++ replicate (partBytes - n) 0) whole counted) ∙ padded;
         state = stands ∙ ap (begun (plain 0 (r .columns) (r .rows) (r .cells))) whole;
@@ -114,7 +114,7 @@ module _ (r : Reader) (settled : Settled r) (none : r .code ≡ 0) where
 pub record AtCell (r : Reader) : Type 0 where
   pub none : r .code ≡ 0
   pub wide : 0 < r .columns
-  pub state : stateOf r ≡ between (r .columns) (r .rows) (r .cells)
+  pub state : stateOf r ≡ between (headOf (r .columns) (r .rows)) (r .cells)
 
 pub at-cell : (r : Reader) → Settled r → (eqb (r .code) 0 && (ltb 0 (r .columns) && eqb (r .held) 0)) ≡ true → AtCell r
 unfolding begun

@@ -8,14 +8,14 @@ use records::limits::MARK_SECOND;
 ghost use mathlib.Core.Path.{_≡_};
 ghost use mathlib.Core.List.{[], _∷_, _++_};
 ghost use Prim.Native.Nat.{_+_, _≤_, _<_};
-ghost use Rattle.gridfile.specs.Reading.{begun, headerEnd, marked, next};
-ghost use Rattle.records.specs.Records.{mostCells};
+ghost use Rattle.gridfile.specs.Reading.{headOf, begun, headerEnd, marked, next};
+ghost use Rattle.records.specs.Forms.{plainForms, mark, mostCells};
 ghost use Rattle.held.specs.Held.{recordBytes, readerOf, stateOf, Settled};
 
 // The header's last byte has come: 12 and 13, or the cells to come.
 fn header_end(room: usize, columns: u32, rows: u32) -> Reader
     requires { ⌜ (columns ≤ mostCells) × (rows ≤ mostCells) ⌝ }
-    ensures { λ r. ⌜ r ≡ readerOf (headerEnd room columns rows) ⌝ }
+    ensures { λ r. ⌜ r ≡ readerOf (headerEnd room (headOf columns rows)) ⌝ }
 {
     let code = end_refusal(room, columns as usize, rows as usize);
     between(code, columns, rows, 0)
@@ -23,7 +23,7 @@ fn header_end(room: usize, columns: u32, rows: u32) -> Reader
 
 // One byte more of the record that comes next.
 fn begin(reader: Reader, byte: u8) -> Reader
-    requires { ⌜ Settled reader × (reader .code ≡ 0) × (reader .held + 1 < recordBytes (reader .columns)) ⌝ }
+    requires { ⌜ Settled reader × (reader .code ≡ 0) × (reader .held + 1 < recordBytes (reader .columns) plainForms) ⌝ }
     ensures { λ r. ⌜ r ≡ readerOf (begun (stateOf reader) (stateOf reader .part ++ byte ∷ [])) ⌝ }
 {
     let mut part = reader.part;
@@ -42,7 +42,7 @@ fn begin(reader: Reader, byte: u8) -> Reader
 
 // Whether a byte may stand at its place in a record.
 fn mark_holds(place: u32, byte: u8) -> bool
-    ensures { λ r. ⌜ r ≡ marked place byte ⌝ }
+    ensures { λ r. ⌜ r ≡ marked mark place byte ⌝ }
 {
     if place == 0 {
         return byte == MARK_FIRST;

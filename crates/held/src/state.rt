@@ -8,7 +8,7 @@ ghost use mathlib.Core.List.{_++_};
 ghost use Prim.Native.Nat.{_*_, _-_, _%_, _≤_};
 ghost use lib.Dec.{eqb, ltb};
 ghost use lib.ListN.{take, replicate};
-ghost use Rattle.records.specs.Records.{cellBytes, mostCells};
+ghost use Rattle.records.specs.Forms.{plainForms, cellBytes, mostCells};
 ghost use Rattle.held.specs.Held.{plain, partBytes, readerOf, recordBytes, stateOf};
 
 // The state between two calls: the refusal so far, what the header said, how many cells were taken in, and the bytes of the
@@ -55,7 +55,7 @@ fn first_bytes(part: [u8; 16], count: usize) -> [u8; 16]
 
 // How many bytes of a record can be held.
 fn most_held(columns: u32) -> usize
-    ensures { λ r. ⌜ r ≡ recordBytes columns - 1 ⌝ }
+    ensures { λ r. ⌜ r ≡ recordBytes columns plainForms - 1 ⌝ }
 {
     if columns == 0 {
         HEADER_BYTES - 1
@@ -79,8 +79,8 @@ pub fn at_a_cell(reader: Reader) -> bool
 
 // How many bytes complete the record begun; the header's counts as begun before its first.
 pub fn missing(reader: Reader) -> usize
-    requires { ⌜ reader .held ≤ recordBytes (reader .columns) ⌝ }
-    ensures { λ r. ⌜ r ≡ (recordBytes (reader .columns) - reader .held) % cellBytes ⌝ }
+    requires { ⌜ reader .held ≤ recordBytes (reader .columns) plainForms ⌝ }
+    ensures { λ r. ⌜ r ≡ (recordBytes (reader .columns) plainForms - reader .held) % cellBytes ⌝ }
 {
     (most_held(reader.columns) + 1 - reader.held as usize) % CELL_BYTES
 }

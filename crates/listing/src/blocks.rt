@@ -4,7 +4,7 @@ use records::parts::get_cell;
 ghost use mathlib.Core.Path.{_≡_};
 ghost use Prim.Native.Nat.{_+_, _*_, _≤_};
 ghost use lib.ListN.{length};
-ghost use Rattle.records.specs.Records.{cellBytes};
+ghost use Rattle.records.specs.Forms.{cellBytes};
 ghost use Rattle.text.specs.Put.{Put};
 ghost use Rattle.listing.specs.Parts.{lineRoom};
 ghost use Rattle.listing.specs.Cells.{recordCells};

@@ -36,11 +36,11 @@ module _ (r first : Reader) (e : first ≡ readerOf (stateOf r)) where
   unfolding readerOf
   code-is = ap (λ (x : Reader). x .code) e
 
-  columns-are : first .columns ≡ s .columns
+  columns-are : first .columns ≡ s .head .columns
   unfolding readerOf
   columns-are = ap (λ (x : Reader). x .columns) e
 
-  rows-are : first .rows ≡ s .rows
+  rows-are : first .rows ≡ s .head .rows
   unfolding readerOf
   rows-are = ap (λ (x : Reader). x .rows) e
 
@@ -49,7 +49,7 @@ module _ (r first : Reader) (e : first ≡ readerOf (stateOf r)) where
   cells-are = ap (λ (x : Reader). x .cells) e
 
   refuses : (n : ℕ) → readerOf (plain n (first .columns) (first .rows) (first .cells)) ≡ readerOf (refusedAt s n)
-  unfolding refusedAt
+  unfolding refusedAt readerOf
   refuses n = rw (columns-are, rows-are, cells-are)
 
   -- a refused reader
@@ -75,9 +75,9 @@ module _ (r first : Reader) (e : first ≡ readerOf (stateOf r)) where
       is-short : tooShort s g ≡ true
       unfolding tooShort
       is-short =
-          let less : room g < s .columns * s .rows = rw (← columns-are, ← rows-are) short in
-          let wide = some-columns (s .columns) (s .rows) (room g) less in
-          rw (eq-eqb (s .code) 0 no-code) (rw (ne-eqb (s .columns) 0 (λ z. absurd (omega arith))) (rw (lt-leb (s .columns * s .rows) (room g) less)))
+          let less : room g < s .head .columns * s .head .rows = rw (← columns-are, ← rows-are) short in
+          let wide = some-columns (s .head .columns) (s .head .rows) (room g) less in
+          rw (eq-eqb (s .code) 0 no-code) (rw (ne-eqb (s .head .columns) 0 (λ z. absurd (omega arith))) (rw (lt-leb (s .head .columns * s .head .rows) (room g) less)))
 
       pub take-short : (readerOf (plain 13 (first .columns) (first .rows) (first .cells)) ≡ takeReader r fragment g) × (g ≡ takeGrid r fragment g)
       unfolding takeReader takeGrid takenFrom keptFrom
@@ -114,17 +114,17 @@ module _ (r first : Reader) (e : first ≡ readerOf (stateOf r)) where
 
     pub end-before : first .columns ≡ 0 → readerOf (plain 11 (first .columns) (first .rows) (first .cells)) ≡ endReader r
     unfolding whole
-    end-before z = end-short (ap (λ (n : ℕ). ltb 0 n && leb (s .columns * s .rows) (s .cells)) (sym columns-are ∙ z))
+    end-before z = end-short (ap (λ (n : ℕ). ltb 0 n && leb (s .head .columns * s .head .rows) (s .cells)) (sym columns-are ∙ z))
 
     pub end-within : first .cells < first .columns * first .rows → readerOf (plain 11 (first .columns) (first .rows) (first .cells)) ≡ endReader r
     unfolding whole
     end-within h =
-        let less : s .cells < s .columns * s .rows = rw (← cells-are, ← columns-are, ← rows-are) h in
-        end-short (ap (λ (t : Bool). ltb 0 (s .columns) && t) (lt-leb (s .columns * s .rows) (s .cells) less) ∙ and-false (ltb 0 (s .columns)))
+        let less : s .cells < s .head .columns * s .head .rows = rw (← cells-are, ← columns-are, ← rows-are) h in
+        end-short (ap (λ (t : Bool). ltb 0 (s .head .columns) && t) (lt-leb (s .head .columns * s .head .rows) (s .cells) less) ∙ and-false (ltb 0 (s .head .columns)))
 
     pub end-whole : (first .columns ≡ 0 → ⊥) → first .columns * first .rows ≤ first .cells → first ≡ endReader r
     unfolding endReader whole
     end-whole wide all =
-        let every : s .columns * s .rows ≤ s .cells = rw (← cells-are, ← columns-are, ← rows-are) all in
-        let some : 0 < s .columns = omega (arith, columns-are, wide) in
-        e ∙ ap readerOf (sym (ends true (ap₂ _&&_ (lt-ltb 0 (s .columns) some) (le-leb (s .columns * s .rows) (s .cells) every))))
+        let every : s .head .columns * s .head .rows ≤ s .cells = rw (← cells-are, ← columns-are, ← rows-are) all in
+        let some : 0 < s .head .columns = omega (arith, columns-are, wide) in
+        e ∙ ap readerOf (sym (ends true (ap₂ _&&_ (lt-ltb 0 (s .head .columns) some) (le-leb (s .head .columns * s .head .rows) (s .cells) every))))

@@ -13,7 +13,8 @@ use Rattle.grid.specs.Grid.{Grid, room}
 use Rattle.refusal.proofs.RefusalLaws.{first-passed, passes, then-first, none-of}
 use Rattle.records.specs.Numbers.{OfBytes}
 use Rattle.gridfile.specs.Reading.{State, start, refusedAt, begun, headerEnd, headerDone, cellDone, next, taken, kept, ended}
-use Rattle.gridfile.proofs.TakenLaws.{taken-append, kept-append, refused-stays, refused-keeps}
+use Rattle.gridfile.proofs.EmittedLaws.{kept-append}
+use Rattle.gridfile.proofs.TakenLaws.{taken-append, refused-stays, refused-keeps}
 use Rattle.gridfile.proofs.KeptLaws.{same-room, kept-lengths}
 use Rattle.held.proofs.HeldLaws.{Sound, sound-refused, with-part, by-test, next-by, bytes-taken, sound-taken}
 use Rattle.reader.specs.Calls.{Fits, tooShort, takenFrom, keptFrom, endedFrom}
@@ -38,15 +39,15 @@ module _ (s : State) (g : Grid) where
   passed-fits : tooShort s g ≡ false → Fits (room g) s
   unfolding tooShort
   passed-fits ok e wide =
-      leb-true _ (room g) (not-false _ (rw (eq-eqb (s .code) 0 e, ne-eqb (s .columns) 0 (λ z. absurd (omega arith))) at ok))
+      leb-true _ (room g) (not-false _ (rw (eq-eqb (s .code) 0 e, ne-eqb (s .head .columns) 0 (λ z. absurd (omega arith))) at ok))
 
   fits-passed : Fits (room g) s → tooShort s g ≡ false
   unfolding tooShort
   fits-passed fits =
       not-so (tooShort s g) (λ short.
       let code = both (eqb (s .code) 0) _ short in
-      let some = both (not (eqb (s .columns) 0)) _ (code .1) in
-      let wide = eqb-false (s .columns) 0 (not-true _ (some .0)) in
+      let some = both (not (eqb (s .head .columns) 0)) _ (code .1) in
+      let wide = eqb-false (s .head .columns) 0 (not-true _ (some .0)) in
       omega (arith, leb-false _ (room g) (not-true _ (some .1)), fits (eqb-true (s .code) 0 (code .0)) (omega (arith, wide))))
 
 -- a call that is refused before its first byte, and one that is not
@@ -159,10 +160,10 @@ module _ (s : State) where
   end-number =
       by-test (λ t. t .code ≡ ended s) (eqb (ended s) 0) _ _ (λ t. let e = eqb-true (ended s) 0 t in none-of (s .code) _ e .0 ∙ sym e) (λ t. refl)
 
-  pub end-columns : endedFrom s .columns ≡ s .columns
+  pub end-columns : endedFrom s .head .columns ≡ s .head .columns
   unfolding endedFrom refusedAt
-  end-columns = by-test (λ t. t .columns ≡ s .columns) (eqb (ended s) 0) _ _ (λ t. refl) (λ t. refl)
+  end-columns = by-test (λ t. t .head .columns ≡ s .head .columns) (eqb (ended s) 0) _ _ (λ t. refl) (λ t. refl)
 
-  pub end-rows : endedFrom s .rows ≡ s .rows
+  pub end-rows : endedFrom s .head .rows ≡ s .head .rows
   unfolding endedFrom refusedAt
-  end-rows = by-test (λ t. t .rows ≡ s .rows) (eqb (ended s) 0) _ _ (λ t. refl) (λ t. refl)
+  end-rows = by-test (λ t. t .head .rows ≡ s .head .rows) (eqb (ended s) 0) _ _ (λ t. refl) (λ t. refl)

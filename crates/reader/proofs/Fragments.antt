@@ -4,8 +4,10 @@ use mathlib.Core.List.{List, [], _∷_, _++_, append-nil}
 use Prim.Native.Nat.{ℕ}
 use native.Mathlib.Omega.{arith}
 use Rattle.grid.specs.Grid.{Grid, room}
+use Rattle.records.specs.Forms.{Forms}
 use Rattle.records.specs.Numbers.{OfBytes}
 use Rattle.records.proofs.NumberLaws.{bytes-front, bytes-back}
+use Rattle.records.proofs.FormLaws.{all-forms}
 use Rattle.gridfile.specs.Reading.{State, start, taken, kept, readRefusal, shapeOf, readAnswer}
 use Rattle.gridfile.proofs.KeptLaws.{kept-past}
 use Rattle.gridfile.proofs.FileLaws.{read-grid}
@@ -13,7 +15,7 @@ use Rattle.held.specs.declared.state.Reader.{Reader}
 use Rattle.held.specs.Held.{readerOf, stateOf}
 use Rattle.held.proofs.HeldLaws.{Sound, sound-start, refused-back, back, sound-of, bytes-of, sound-taken}
 use Rattle.reader.specs.Calls.{takenFrom, keptFrom, endedFrom, newReader, takeReader, takeGrid, endReader}
-use Rattle.reader.specs.Fragments.{takeAll, gridAll, joined, AnyCuts, Stays, RefusalStays, AsOne, GoodOnes, WholeFile}
+use Rattle.reader.specs.Fragments.{takeAll, gridAll, joined, AnyCuts, Stays, RefusalStays, AsOne, formsIn, cellIn, GoodOnes, WholeFile}
 use Rattle.reader.proofs.CallLaws.{fits-start, fits-takes, fits-keeps, refused-takes, refused-leaves, takes-on, keeps-on, empty-from, bytes-from, sound-from, refused-end, empty-end, end-number, end-columns, end-rows}
 use Rattle.reader.proofs.CellLaws.{read-file}
 use Rattle.reader.proofs.GoodLaws.{good-count}
@@ -86,16 +88,20 @@ module _ (file : List ℕ) (g : Grid) (ofBytes : OfBytes file) where
   as-one =
       record {
         number = ap (λ (r : Reader). r .code) whole-ended ∙ end-number whole;
-        columns = λ e. ap (λ (r : Reader). r .columns) whole-ended ∙ end-columns whole ∙ sym (ap (λ (n : ℕ). shapeOf n (whole .columns) (whole .rows) .columns) e);
-        rows = λ e. ap (λ (r : Reader). r .rows) whole-ended ∙ end-rows whole ∙ sym (ap (λ (n : ℕ). shapeOf n (whole .columns) (whole .rows) .rows) e);
+        columns = λ e. ap (λ (r : Reader). r .columns) whole-ended ∙ end-columns whole ∙ sym (ap (λ (n : ℕ). shapeOf n (whole .head .columns) (whole .head .rows) .columns) e);
+        rows = λ e. ap (λ (r : Reader). r .rows) whole-ended ∙ end-rows whole ∙ sym (ap (λ (n : ℕ). shapeOf n (whole .head .columns) (whole .head .rows) .rows) e);
         grid = λ e. whole-kept ∙ sym (read-grid file g e);
       }
 
   good-ones : GoodOnes file g (takeReader newReader file g .cells) (takeGrid newReader file g)
-  unfolding readerOf
+  unfolding readerOf cellIn
   good-ones =
       subst₂ (λ (r : Reader) (h : Grid). GoodOnes file g (r .cells) h) (sym whole-taken) (sym whole-kept)
-      (record { number = good-count file g ofBytes; inside = read-file file g ofBytes .inside; past = λ i past. kept-past (room g) start file g i past })
+      (record {
+        number = good-count file g ofBytes;
+        inside = λ i below. read-file file g ofBytes .inside i below ∙ ap (λ (forms : Forms). cellIn forms file i) (all-forms (formsIn file g));
+        past = λ i past. kept-past (room g) start file g i past;
+      })
 
 pub whole-file : WholeFile
 whole-file file g ofBytes = (as-one file g ofBytes, good-ones file g ofBytes)

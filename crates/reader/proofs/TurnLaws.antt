@@ -1,12 +1,13 @@
 -- Laws of a fragment taken in byte by byte: where it stands after i turns. Assumes nothing.
-use mathlib.Core.Path.{_≡_, refl, sym, ap, ap₂, subst, _∙_}
+use mathlib.Core.Path.{_≡_, sym, ap, ap₂, subst, _∙_}
 use mathlib.Core.List.{List, [], _∷_}
 use Prim.Native.Nat.{ℕ, _+_, _-_, _≤_, _<_}
 use lib.ListN.{length, getD, take, drop, take-append-drop}
 use Rattle.grid.specs.Grid.{Grid, room}
 use Rattle.records.specs.Numbers.{OfBytes}
 use Rattle.gridfile.specs.Reading.{State, next, taken, keep, kept}
-use Rattle.gridfile.proofs.TakenLaws.{kept-append, refused-keeps}
+use Rattle.gridfile.proofs.EmittedLaws.{kept-append, kept-none, kept-one}
+use Rattle.gridfile.proofs.TakenLaws.{refused-keeps}
 use Rattle.gridfile.proofs.KeptLaws.{SameLengths, kept-lengths, same-room}
 use Rattle.held.specs.declared.state.Reader.{Reader}
 use Rattle.held.specs.Held.{readerOf, stateOf, Settled}
@@ -34,8 +35,7 @@ Done space s fragment lent r g = (r ≡ readerOf (taken space s fragment)) × (g
 
 module _ (space : ℕ) (s : State) (fragment : List ℕ) (lent : Grid) where
   pub turned-none : (r : Reader) → r ≡ readerOf s → Turned space s fragment lent 0 r lent
-  unfolding kept
-  turned-none r e = record { seen = seen-none space s fragment r e; grid = refl }
+  turned-none r e = record { seen = seen-none space s fragment r e; grid = sym (kept-none space s lent) }
 
 module _ {space : ℕ} {s : State} {fragment : List ℕ} {lent : Grid} {i : ℕ} {r : Reader} {g : Grid} (t : Turned space s fragment lent i r g) where
   pub turned-all : length fragment ≤ i → Done space s fragment lent r g
@@ -58,12 +58,11 @@ module _ {space : ℕ} {s : State} {fragment : List ℕ} {lent : Grid} {i : ℕ}
     turned-room = b .same ∙ sym (same-room turned-long)
 
     pub turned-more : i < length fragment → {r′ : Reader} {g′ : Grid} → r′ ≡ readerOf (next space (stateOf r) (getD fragment i 0)) → g′ ≡ keep (room g) (stateOf r) (getD fragment i 0) g → Turned space s fragment lent (i + 1) r′ g′
-    unfolding kept
     turned-more there e f =
         let byte = getD fragment i 0 in
         record {
           seen = seen-more (t .seen) (b .state) there e;
-          grid = f ∙ ap (λ (n : ℕ). keep n (stateOf r) byte g) (sym turned-room) ∙ ap₂ (λ (x : State) (h : Grid). keep space x byte h) stands (t .grid) ∙ sym (ap (λ (l : List ℕ). kept space s l lent) (one-more fragment i there) ∙ kept-append space s (take i fragment) (byte ∷ []) lent);
+          grid = f ∙ ap (λ (n : ℕ). keep n (stateOf r) byte g) (sym turned-room) ∙ ap₂ (λ (x : State) (h : Grid). keep space x byte h) stands (t .grid) ∙ sym (ap (λ (l : List ℕ). kept space s l lent) (one-more fragment i there) ∙ kept-append space s (take i fragment) (byte ∷ []) lent ∙ kept-one space (taken space s (take i fragment)) byte (kept space s (take i fragment) lent));
         }
 
     -- and the rest of the fragment goes on from there

@@ -2,14 +2,16 @@
 use mathlib.Core.Path.{_≡_}
 use mathlib.Core.Bool.{Bool, _&&_, cond}
 use mathlib.Core.List.{List, [], _∷_, _++_}
-use Prim.Native.Nat.{ℕ, zero, suc, _+_, _*_, _≤_, _<_}
+use Prim.Native.Nat.{ℕ, zero, suc, _+_, _≤_, _<_}
 use lib.Dec.{leb, eqb}
 use lib.ListN.{length, getD, take}
 use lib.Seq.{slice}
+use Rattle.grid.specs.declared.cells.MEStats.{MEStats}
 use Rattle.grid.specs.Grid.{Grid, statsAt, room}
-use Rattle.records.specs.Records.{headerBytes, cellOf, fileBytes}
+use Rattle.records.specs.Forms.{Forms, cellMark, headerSize}
+use Rattle.records.specs.Records.{cellOf, fileBytes}
 use Rattle.records.specs.Numbers.{OfBytes}
-use Rattle.gridfile.specs.Reading.{start, marked, taken, readRefusal, readAnswer, readGrid}
+use Rattle.gridfile.specs.Reading.{headCells, start, headerShown, marked, taken, readRefusal, readAnswer, readGrid}
 use Rattle.held.specs.declared.state.Reader.{Reader}
 use Rattle.reader.specs.Calls.{newReader, takeReader, takeGrid, endReader}
 
@@ -49,26 +51,36 @@ pub record AsOne (file : List ℕ) (g : Grid) : Type 0 where
   pub rows : readRefusal file g ≡ 0 → endReader (takeReader newReader file g) .rows ≡ readAnswer file g .rows
   pub grid : readRefusal file g ≡ 0 → takeGrid newReader file g ≡ readGrid file g
 
+-- the forms of a file's records
+abbrev pub formsIn : List ℕ → Grid → Forms
+formsIn file g = taken (room g) start file .head .forms
+
 -- the record of cell i is good: it is complete and starts with the mark
-unfoldable pub goodRecord : List ℕ → ℕ → Bool
-goodRecord file i =
-    leb (fileBytes (suc i)) (length file) && (marked 0 (getD file (fileBytes i) 0) && marked 1 (getD file (fileBytes i + 1) 0))
+unfoldable pub goodRecord : Forms → List ℕ → ℕ → Bool
+goodRecord forms file i =
+    let mark = cellMark (forms .cell) in
+    let at = fileBytes forms i in
+    leb (fileBytes forms (suc i)) (length file) && (marked mark 0 (getD file at 0) && marked mark 1 (getD file (at + 1) 0))
 
 -- of n cells from i on, those whose records are good, up to the first whose record is not
-unfoldable pub goodFrom : List ℕ → (i n : ℕ) → ℕ
-goodFrom file i zero = 0
-goodFrom file i (suc n) = cond (goodRecord file i) (suc (goodFrom file (suc i) n)) 0
+unfoldable pub goodFrom : Forms → List ℕ → (i n : ℕ) → ℕ
+goodFrom forms file i zero = 0
+goodFrom forms file i (suc n) = cond (goodRecord forms file i) (suc (goodFrom forms file (suc i) n)) 0
 
 -- of all cells that the header says: none where it is refused, or cut so that it says none
 unfoldable pub goodCount : List ℕ → Grid → ℕ
 goodCount file g =
-    let header = taken (room g) start (take headerBytes file) in
-    cond (eqb (header .code) 0) (goodFrom file 0 (header .columns * header .rows)) 0
+    let header = taken (room g) start (take (headerSize (headerShown file)) file) in
+    cond (eqb (header .code) 0) (goodFrom (formsIn file g) file 0 (headCells (header .head))) 0
+
+-- the cell that a file's record i holds
+unfoldable pub cellIn : Forms → List ℕ → ℕ → MEStats
+cellIn forms file i = cellOf (forms .cell) (slice (fileBytes forms i) (fileBytes forms (suc i)) file)
 
 -- and of any file: the count is that of its good records, the cells counted hold them, and no other cell is written
 pub record GoodOnes (file : List ℕ) (g : Grid) (count : ℕ) (h : Grid) : Type 0 where
   pub number : count ≡ goodCount file g
-  pub inside : (i : ℕ) → i < count → statsAt h i ≡ cellOf (slice (fileBytes i) (fileBytes (suc i)) file)
+  pub inside : (i : ℕ) → i < count → statsAt h i ≡ cellIn (formsIn file g) file i
   pub past : (i : ℕ) → count ≤ i → statsAt h i ≡ statsAt g i
 
 abbrev pub WholeFile : Type 0

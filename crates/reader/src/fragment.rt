@@ -16,8 +16,8 @@ ghost use Prim.Native.Nat.{_+_, _*_, _-_, _/_, _≤_, _<_, min};
 ghost use lib.ListN.{length, take};
 ghost use Rattle.grid.specs.Grid.{room};
 ghost use Rattle.grid.specs.Lent.{lentGrid, entryGrid, exitGrid};
-ghost use Rattle.records.specs.Records.{cellBytes, mostCells};
-ghost use Rattle.gridfile.specs.Reading.{between, taken, keep, kept};
+ghost use Rattle.records.specs.Forms.{cellBytes, mostCells};
+ghost use Rattle.gridfile.specs.Reading.{headOf, between, taken, keep, kept};
 ghost use Rattle.held.specs.Held.{readerOf, stateOf, Settled};
 ghost use Rattle.reader.specs.Calls.{Fits};
 
@@ -94,8 +94,8 @@ fn take_records(
 ) -> usize
     requires { ⌜ (0 < columns) × (columns ≤ mostCells) × (down ≤ mostCells) ⌝ }
     requires { ⌜ (columns * down ≤ length (now rows)) × (columns * down ≤ length (now cols)) × (columns * down ≤ length (now sads)) ⌝ }
-    ensures { λ r. ⌜ (r ≤ columns * down - cells) × (cellBytes * r ≤ length (now (fragment .entry))) × (taken 0 (between columns down cells) (take (cellBytes * r) (now (fragment .entry))) ≡ between columns down (cells + r)) ⌝ }
-    ensures { λ r. ⌜ exitGrid rows cols sads ≡ kept 0 (between columns down cells) (take (cellBytes * r) (now (fragment .entry))) (entryGrid rows cols sads) ⌝ }
+    ensures { λ r. ⌜ (r ≤ columns * down - cells) × (cellBytes * r ≤ length (now (fragment .entry))) × (taken 0 (between (headOf columns down) cells) (take (cellBytes * r) (now (fragment .entry))) ≡ between (headOf columns down) (cells + r)) ⌝ }
+    ensures { λ r. ⌜ exitGrid rows cols sads ≡ kept 0 (between (headOf columns down) cells) (take (cellBytes * r) (now (fragment .entry))) (entryGrid rows cols sads) ⌝ }
 {
     let most = whole_records(columns * down, cells, fragment.len());
     let mut i = 0;

@@ -11,10 +11,11 @@ use mir.Val.{SFits, ofZ, toZ}
 use mir.ValLaws.{ofZ-fits, toZ-ofZ, toZ-fits, ofZ-toZ}
 use Rattle.grid.specs.declared.cells.MEStats.{MEStats}
 use Rattle.records.specs.Numbers.{OfBytes, bytesOf, numberOf}
-use Rattle.records.specs.Records.{mark, cellBytes, cellRecord, cellOf, FitsCell}
+use Rattle.records.specs.Forms.{oneSad, mark, cellBytes}
+use Rattle.records.specs.Records.{cellRecord, cellOf, FitsCell}
 use Rattle.records.proofs.NumberLaws.{length-bytes, number-bytes, part-below, part-again}
 
-pub length-cell : (c : MEStats) → length (cellRecord c) ≡ cellBytes
+pub length-cell : (c : MEStats) → length (cellRecord oneSad c) ≡ cellBytes
 unfolding cellRecord
 length-cell c = simp (length-append, length-bytes)
 
@@ -22,7 +23,7 @@ length-cell c = simp (length-append, length-bytes)
 word-back : (z : ℤ) → SFits w16 z → toZ w16 (numberOf (bytesOf 2 (ofZ w16 z))) ≡ z
 word-back z f = ap (toZ w16) (number-bytes 2 (ofZ w16 z) (ofZ-fits w16 z f .fits)) ∙ toZ-ofZ w16 z f
 
-pub cell-back : (c : MEStats) → FitsCell c → cellOf (cellRecord c) ≡ c
+pub cell-back : (c : MEStats) → FitsCell c → cellOf oneSad (cellRecord oneSad c) ≡ c
 unfolding cellOf cellRecord bytesOf
 cell-back c f =
     let row = word-back (c .mv .row) (f .mv .row) in
@@ -35,7 +36,7 @@ module _ (bs : List ℕ) (eight : length bs ≡ 8) (h : OfBytes bs) where
   fits : (f t : ℕ) → t ≤ 8 → numberOf (slice f t bs) < 256 ^ (t - f)
   fits f t le = part-below bs h f t (omega arith)
 
-  pub cell-fits : FitsCell (cellOf (mark ++ bs))
+  pub cell-fits : FitsCell (cellOf oneSad (mark ++ bs))
   unfolding cellOf
   cell-fits =
       record {
@@ -52,7 +53,7 @@ module _ (bs : List ℕ) (eight : length bs ≡ 8) (h : OfBytes bs) where
   joined : (n m : ℕ) → n ≤ m → take n bs ++ slice n m bs ≡ take m bs
   joined n m le = ap (λ (l : List ℕ). l ++ slice n m bs) (sym (take-take n m bs le)) ∙ take-append-drop n (take m bs)
 
-  pub cell-again : cellRecord (cellOf (mark ++ bs)) ≡ mark ++ bs
+  pub cell-again : cellRecord oneSad (cellOf oneSad (mark ++ bs)) ≡ mark ++ bs
   unfolding cellOf cellRecord
   cell-again =
       let row = word-again _ (fits 0 2 (omega arith)) ∙ again 0 2 (omega arith) in

@@ -11,7 +11,8 @@ ghost use mathlib.Core.Path.{_≡_};
 ghost use Prim.Native.Nat.{_+_, _≤_, _<_};
 ghost use lib.ListN.{length};
 ghost use lib.Seq.{sets, slice};
-ghost use Rattle.records.specs.Records.{mark, headerBytes, mostCells, headerRecord, cellBytes, cellRecord, cellOf};
+ghost use Rattle.records.specs.Forms.{byteSides, oneSad, mark, headerBytes, cellBytes, mostCells};
+ghost use Rattle.records.specs.Records.{headerRecord, cellRecord, cellOf};
 
 // The mark that every record starts with.
 fn put_mark(at: usize, file: &mut [u8])
@@ -25,7 +26,7 @@ fn put_mark(at: usize, file: &mut [u8])
 // Columns and rows of cells, each less one.
 pub fn put_header(columns: usize, rows: usize, file: &mut [u8])
     requires { ⌜ (0 < columns) × (columns ≤ mostCells) × (0 < rows) × (rows ≤ mostCells) × (headerBytes ≤ length (now file)) ⌝ }
-    ensures { λ r. ⌜ now (file .exit) ≡ sets (now (file .entry)) 0 (headerRecord columns rows) ⌝ }
+    ensures { λ r. ⌜ now (file .exit) ≡ sets (now (file .entry)) 0 (headerRecord byteSides columns rows) ⌝ }
 {
     put_mark(0, file);
     file[2] = (columns - 1) as u8;
@@ -34,7 +35,7 @@ pub fn put_header(columns: usize, rows: usize, file: &mut [u8])
 
 pub fn put_cell(at: usize, cell: MEStats, file: &mut [u8])
     requires { ⌜ at + cellBytes ≤ length (now file) ⌝ }
-    ensures { λ r. ⌜ now (file .exit) ≡ sets (now (file .entry)) at (cellRecord cell) ⌝ }
+    ensures { λ r. ⌜ now (file .exit) ≡ sets (now (file .entry)) at (cellRecord oneSad cell) ⌝ }
 {
     let row = bits_of(cell.mv.row) as u64;
     let col = bits_of(cell.mv.col) as u64;
@@ -45,7 +46,7 @@ pub fn put_cell(at: usize, cell: MEStats, file: &mut [u8])
 
 pub fn get_cell(file: &[u8], at: usize) -> MEStats
     requires { ⌜ at + cellBytes ≤ length (now file) ⌝ }
-    ensures { λ r. ⌜ r ≡ cellOf (slice at (at + cellBytes) (now (file .entry))) ⌝ }
+    ensures { λ r. ⌜ r ≡ cellOf oneSad (slice at (at + cellBytes) (now (file .entry))) ⌝ }
 {
     let mv = MotionVector {
         row: signed_of(get_16(file, at + 2)),

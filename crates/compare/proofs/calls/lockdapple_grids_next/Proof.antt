@@ -1,12 +1,11 @@
 -- `compare::calls::lockdapple_grids_next` meets its contract. Assumes nothing.
 use borrow.Author.Needs.{needs}
-use borrow.Author.Tests.{ne-eqb}
 use mathlib.Core.Path.{_≡_, sym, ap₂, _∙_}
 use Prim.Native.Nat.{ℕ, _*_, _≤_}
 use native.Mathlib.Omega.{arith}
 use denote.Ref.{now}
 use Rattle.grid.specs.Grid.{Grid, gridOf, room}
-use Rattle.compare.specs.Answer.{compareRefusal, nextAnswer}
+use Rattle.compare.specs.Answer.{compareRefusal}
 use Rattle.compare.proofs.AnswerLaws.{cells-most, both-hold, refused-next, found-next}
 use Rattle.compare.proofs.calls.lockdapple_grids_next.Statement.{statement}
 use Rattle.compare.proofs.calls.lockdapple_grids_next.Tie as tie

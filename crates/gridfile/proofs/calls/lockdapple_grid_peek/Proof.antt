@@ -6,7 +6,8 @@ use Prim.Native.Nat.{_+_, _*_, _≤_}
 use native.Mathlib.Omega.{arith}
 use lib.ListN.{length, getD}
 use denote.Ref.{now}
-use Rattle.records.specs.Records.{mostCells, fileBytes}
+use Rattle.records.specs.Forms.{mostCells}
+use Rattle.records.specs.Records.{fileBytes}
 use Rattle.gridfile.specs.Peek.{peekRefusal, peekOf, peekAnswer}
 use Rattle.gridfile.proofs.HeaderLaws.{headNumber}
 use Rattle.gridfile.proofs.AnswerLaws.{header-there, header-fits}

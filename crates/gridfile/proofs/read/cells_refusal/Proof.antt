@@ -8,23 +8,24 @@ use lib.Dec.{eqb}
 use lib.ListN.{drop}
 use denote.Ref.{now}
 use Rattle.ground.proofs.TestLaws.{passed, failed}
-use Rattle.records.specs.Records.{headerBytes, fileBytes}
-use Rattle.gridfile.specs.Reading.{between, taken, ended}
+use Rattle.records.specs.Forms.{plainForms, headerBytes}
+use Rattle.records.specs.Records.{fileBytes}
+use Rattle.gridfile.specs.Reading.{headOf, between, taken, ended}
 use Rattle.gridfile.proofs.WriteLaws.{shape-most}
 use Rattle.gridfile.proofs.PlaceLaws.{marks-stop, cut-short, too-long, just-long}
 use Rattle.gridfile.proofs.read.cells_refusal.Statement.{statement}
 use Rattle.gridfile.proofs.read.cells_refusal.Tie as tie
 
 -- how many records are there
-whole : (n : ℕ) → 4 ≤ n → fileBytes ((n - 4) / 10) ≤ n
+whole : (n : ℕ) → 4 ≤ n → fileBytes plainForms ((n - 4) / 10) ≤ n
 unfolding fileBytes
 whole n h = omega arith
 
-no-more : (n : ℕ) → 4 ≤ n → n < fileBytes (suc ((n - 4) / 10))
+no-more : (n : ℕ) → 4 ≤ n → n < fileBytes plainForms (suc ((n - 4) / 10))
 unfolding fileBytes
 no-more n h = omega arith
 
-all-whole : (n count : ℕ) → 4 ≤ n → count ≤ (n - 4) / 10 → fileBytes count ≤ n
+all-whole : (n count : ℕ) → 4 ≤ n → count ≤ (n - 4) / 10 → fileBytes plainForms count ≤ n
 unfolding fileBytes
 all-whole n count h few = omega arith
 
@@ -61,7 +62,7 @@ module _ (c : tie.After-mark-refusal) where
   abbrev entry : tie.Start
   entry = c .before .before .before .before .before
 
-  ends : ended (taken 0 (between (entry .args .columns) (entry .args .rows) 0) (drop headerBytes (now (entry .args .file)))) ≡ cond (eqb (c .mark-refusal .result) 10) 10 11
+  ends : ended (taken 0 (between (headOf (entry .args .columns) (entry .args .rows)) 0) (drop headerBytes (now (entry .args .file)))) ≡ cond (eqb (c .mark-refusal .result) 10) 10 11
   unfolding fileBytes
   ends =
       let a = entry .args in

@@ -7,6 +7,7 @@ use lib.ListN.{length}
 use denote.Ref.{now}
 use Rattle.grid.specs.declared.cells.MEStats.{MEStats}
 use Rattle.grid.specs.Grid.{Grid, gridOf, withCell}
+use Rattle.records.specs.Forms.{plainForms}
 use Rattle.records.specs.Records.{fileBytes}
 use Rattle.gridfile.proofs.WriteLaws.{shape-most}
 use Rattle.gridfile.proofs.LeftLaws.{Left, left-all, left-there, left-next, left-none}
@@ -34,7 +35,7 @@ module _ (c : tie.In-loop Inv-loop μ-loop) where
   abbrev entry : tie.Start Inv-loop μ-loop
   entry = c .before .before .before .before
 
-  there : fileBytes (c .before .loop .i) + 10 ≤ length (now (entry .args .file))
+  there : fileBytes plainForms (c .before .loop .i) + 10 ≤ length (now (entry .args .file))
   there = left-there _ _ _ (entry .pre .0 .1) _ _ _ (c .loop-test .taken) (c .before .loop .inv)
 
   rows-there : c .before .loop .i < length (c .before .loop .rows)

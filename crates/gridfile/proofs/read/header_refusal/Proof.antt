@@ -6,7 +6,7 @@ use native.Mathlib.Omega.{arith}
 use lib.ListN.{getD}
 use denote.Ref.{now}
 use Rattle.refusal.proofs.RefusalLaws.{first-is, then-later}
-use Rattle.gridfile.specs.Reading.{headerEnd}
+use Rattle.gridfile.specs.Reading.{headOf, headerEnd}
 use Rattle.gridfile.proofs.HeaderLaws.{markNumber, headNumber, rest-number, short-number, long-number, head-number}
 use Rattle.gridfile.proofs.read.header_refusal.Statement.{statement}
 use Rattle.gridfile.proofs.read.header_refusal.Tie as tie
@@ -18,7 +18,7 @@ after-mark c =
     head-number (a .room) (now (a .file)) ∙ then-later (markNumber (now (a .file)) 0) (rest-number (a .room) (now (a .file))) (sym (c .before .mark-refusal .ensures) ∙ c .if1 .left)
 
 -- and all four bytes are there
-at-end : (c : tie.Else2) → {n : ℕ} → headerEnd (c .before .before .before .before .args .room) (getD (now (c .before .before .before .before .args .file)) 2 0 + 1) (getD (now (c .before .before .before .before .args .file)) 3 0 + 1) .code ≡ n → n ≡ headNumber (c .before .before .before .before .args .room) (now (c .before .before .before .before .args .file))
+at-end : (c : tie.Else2) → {n : ℕ} → headerEnd (c .before .before .before .before .args .room) (headOf (getD (now (c .before .before .before .before .args .file)) 2 0 + 1) (getD (now (c .before .before .before .before .args .file)) 3 0 + 1)) .code ≡ n → n ≡ headNumber (c .before .before .before .before .args .room) (now (c .before .before .before .before .args .file))
 at-end c e =
     let a = c .before .before .before .before .args in
     sym (after-mark (c .before) ∙ long-number (a .room) (now (a .file)) (c .if2 .left) ∙ e)

@@ -7,6 +7,7 @@ use lib.ListN.{length}
 use denote.Ref.{now}
 use Rattle.ground.specs.Every.{allBelow}
 use Rattle.ground.proofs.EveryLaws.{below-none, below-more, below-fails}
+use Rattle.records.specs.Forms.{plainForms}
 use Rattle.records.specs.Records.{fileBytes}
 use Rattle.gridfile.proofs.MarkLaws.{mark-holds, mark-fails}
 use Rattle.gridfile.proofs.PlaceLaws.{cellMarked}
@@ -36,7 +37,7 @@ get-16-requires c κs = omega arith
 
 -- where the mark of a turn lies
 module _ (c : tie.In-loop Inv-loop μ-loop) where
-  there : fileBytes (c .before .loop .i) + 2 ≤ length (now (c .before .before .before .args .file))
+  there : fileBytes plainForms (c .before .loop .i) + 2 ≤ length (now (c .before .before .before .args .file))
   unfolding fileBytes
   there = omega arith
 
@@ -45,7 +46,7 @@ unfolding fileBytes
 returns c =
     let turn = c .before .before in
     let file = now (turn .before .before .before .args .file) in
-    sym (below-fails _ (cellMarked file) (turn .before .loop .i) (turn .loop-test .taken) (mark-fails file (fileBytes (turn .before .loop .i)) _ (turn .before .before .shared-slice-known .given) (there turn) (c .before .get-16 .ensures) (c .if1 .taken)))
+    sym (below-fails _ (cellMarked file) (turn .before .loop .i) (turn .loop-test .taken) (mark-fails file (fileBytes plainForms (turn .before .loop .i)) _ (turn .before .before .shared-slice-known .given) (there turn) (c .before .get-16 .ensures) (c .if1 .taken)))
 
 add-i : tie.Need-add-i Inv-loop μ-loop
 add-i c = omega arith
@@ -59,7 +60,7 @@ loop-again c =
     let turn = c .before .before in
     let at = turn .before .loop in
     let file = now (turn .before .before .before .args .file) in
-    (omega arith, below-more (at .i) (cellMarked file) (at .inv .1) (mark-holds file (fileBytes (at .i)) _ (turn .before .before .shared-slice-known .given) (there turn) (c .before .get-16 .ensures) (c .if1 .left)))
+    (omega arith, below-more (at .i) (cellMarked file) (at .inv .1) (mark-holds file (fileBytes plainForms (at .i)) _ (turn .before .before .shared-slice-known .given) (there turn) (c .before .get-16 .ensures) (c .if1 .left)))
 
 returns-2 : tie.Need-returns-2 Inv-loop μ-loop
 returns-2 c =

@@ -11,7 +11,8 @@ use lib.Seq.{sets, length-sets}
 use denote.Ref.{now}
 use Rattle.grid.specs.declared.cells.MEStats.{MEStats}
 use Rattle.grid.specs.Grid.{Grid, gridOf, statsAt}
-use Rattle.records.specs.Records.{headerBytes, cellBytes, cellRecord, fileBytes}
+use Rattle.records.specs.Forms.{oneSad, headerBytes, cellBytes}
+use Rattle.records.specs.Records.{cellRecord, fileBytes}
 use Rattle.records.proofs.NumberLaws.{puts-on}
 use Rattle.gridfile.specs.Writing.{cellRecords}
 use Rattle.gridfile.proofs.WriteLaws.{length-cells, cells-snoc}
@@ -20,15 +21,15 @@ use Rattle.gridfile.proofs.write.put_cells.Tie as tie
 
 abbrev Inv-loop : tie.InvT-loop
 Inv-loop count rows cols sads file₀ i₀ file i =
-    (i ≤ count) × (i % 2 ≡ 0) × (file ≡ sets file₀ headerBytes (cellRecords (gridOf rows cols sads) 0 i))
+    (i ≤ count) × (i % 2 ≡ 0) × (file ≡ sets file₀ headerBytes (cellRecords oneSad (gridOf rows cols sads) 0 i))
 
 abbrev μ-loop : tie.MeasureT-loop
 μ-loop count rows cols sads file₀ i₀ file i = count - i
 
 -- a cell's record behind those before it
-next-cell : (l : List ℕ) (g : Grid) (i : ℕ) {m n : List ℕ} {s : MEStats} → m ≡ sets l headerBytes (cellRecords g 0 i) → s ≡ statsAt g i → n ≡ sets m (headerBytes + cellBytes * i) (cellRecord s) → n ≡ sets l headerBytes (cellRecords g 0 (i + 1))
+next-cell : (l : List ℕ) (g : Grid) (i : ℕ) {m n : List ℕ} {s : MEStats} → m ≡ sets l headerBytes (cellRecords oneSad g 0 i) → s ≡ statsAt g i → n ≡ sets m (headerBytes + cellBytes * i) (cellRecord oneSad s) → n ≡ sets l headerBytes (cellRecords oneSad g 0 (i + 1))
 next-cell l g i e f h =
-    rw (add-one, cells-snoc, zero-add, ← f) (puts-on l headerBytes (cellRecords g 0 i) _ e h (simp length-cells))
+    rw (add-one, cells-snoc, zero-add, ← f) (puts-on l headerBytes (cellRecords oneSad g 0 i) _ e h (simp length-cells))
 
 loop-holds : tie.Need-loop-holds Inv-loop μ-loop
 unfolding cellRecords

@@ -2,6 +2,7 @@
 use borrow.Author.Needs.{needs}
 use Prim.Native.Nat.{suc, _<_}
 use native.Mathlib.Omega.{arith}
+use Rattle.records.specs.Forms.{plainForms}
 use Rattle.held.specs.Held.{partBytes}
 use Rattle.held.proofs.HeldLaws.{some-bytes}
 use Rattle.held.proofs.OpenLaws.{Open, opened}
@@ -14,7 +15,7 @@ module _ (c : tie.Start) where
   open-here = opened (c .args .reader) (c .pre .0) (c .pre .1)
 
   fits : suc (c .args .reader .held) < partBytes
-  fits = omega (arith, c .pre .2, some-bytes (c .args .reader .columns))
+  fits = omega (arith, c .pre .2, some-bytes (c .args .reader .columns) plainForms)
 
 cast-held : tie.Need-cast-held
 cast-held c = search needs

@@ -7,7 +7,7 @@ use native.Mathlib.Numerals.{add-one}
 use native.Mathlib.Omega.{arith}
 use borrow.Author.Tests.{ne-eqb}
 use Rattle.ground.proofs.TestLaws.{passed, failed}
-use Rattle.records.specs.Records.{cellBytes}
+use Rattle.records.specs.Forms.{plainForms, cellBytes}
 use Rattle.gridfile.proofs.WriteLaws.{shape-most}
 use Rattle.held.specs.Held.{plain, recordBytes, readerOf}
 use Rattle.held.proofs.OpenLaws.{Open, opened}
@@ -19,7 +19,7 @@ module _ (c : tie.Start) where
   open-here : Open (c .args .reader)
   open-here = opened (c .args .reader) (c .pre .0) (c .pre .1)
 
-  size : recordBytes (c .args .reader .columns) ≡ cellBytes
+  size : recordBytes (c .args .reader .columns) plainForms ≡ cellBytes
   unfolding recordBytes
   size = rw (ne-eqb (c .args .reader .columns) 0 (λ e. absurd (omega (arith, c .pre .2))))
 

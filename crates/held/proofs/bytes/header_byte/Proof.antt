@@ -2,12 +2,13 @@
 -- Assumes nothing.
 use borrow.Author.Needs.{needs}
 use mathlib.Core.Path.{_≡_, sym, ap, _∙_}
+use Prim.Native.Nat.{ℕ}
 use native.Mathlib.Omega.{arith}
 use lib.ListN.{getD}
 use mir.Syntax.{w8}
 use mir.Val.{Fits}
 use Rattle.ground.proofs.TestLaws.{passed, failed}
-use Rattle.records.specs.Records.{headerBytes}
+use Rattle.records.specs.Forms.{plainForms, headerBytes}
 use Rattle.held.specs.Held.{recordBytes, readerOf}
 use Rattle.held.proofs.OpenLaws.{Open, opened}
 use Rattle.held.proofs.ByteLaws.{by-wrong, by-more, by-last, head-next, head-done}
@@ -18,9 +19,9 @@ module _ (c : tie.Start) where
   open-here : Open (c .args .reader)
   open-here = opened (c .args .reader) (c .pre .0) (c .pre .1)
 
-  size : recordBytes (c .args .reader .columns) ≡ headerBytes
+  size : recordBytes (c .args .reader .columns) plainForms ≡ headerBytes
   unfolding recordBytes
-  size = ap recordBytes (c .pre .2)
+  size = ap (λ (n : ℕ). recordBytes n plainForms) (c .pre .2)
 
 mark-holds-requires : tie.Need-mark-holds-requires
 mark-holds-requires c κs = search needs

@@ -22,7 +22,7 @@ refused r room b settled some =
 free : (r : Reader) (room b : ℕ) → Settled r → r .code ≡ 0 → 0 < r .columns → readerOf (next 0 (stateOf r) b) ≡ readerOf (next room (stateOf r) b)
 unfolding taken begun
 free r room b settled none read =
-    ap readerOf (taken-free 0 room (stateOf r) (b ∷ []) (subst (λ (s : State). 0 < s .columns) (sym (opened r settled none .state)) read))
+    ap readerOf (taken-free 0 room (stateOf r) (b ∷ []) (subst (λ (s : State). 0 < s .head .columns) (sym (opened r settled none .state)) read))
 
 returns : tie.Need-returns
 returns c =

@@ -9,7 +9,7 @@ use denote.Ref.{now}
 use mir.Syntax.{w8}
 use mir.Val as val
 use Rattle.records.specs.Numbers.{OfBytes}
-use Rattle.records.specs.Records.{mostCells}
+use Rattle.records.specs.Forms.{mostCells}
 use Rattle.gridfile.specs.Reading.{State, taken}
 use Rattle.held.specs.declared.state.Reader.{Reader}
 use Rattle.held.specs.Held.{readerOf, stateOf, checked}

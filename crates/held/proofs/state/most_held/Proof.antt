@@ -3,6 +3,7 @@ use mathlib.Core.Path.{sym, ap}
 use Prim.Native.Nat.{ℕ, _-_}
 use borrow.Author.Needs.{needs}
 use borrow.Author.Tests.{ne-eqb}
+use Rattle.records.specs.Forms.{plainForms}
 use Rattle.held.specs.Held.{recordBytes}
 use Rattle.held.proofs.state.most_held.Statement.{statement}
 use Rattle.held.proofs.state.most_held.Tie as tie
@@ -15,7 +16,7 @@ sub-result-2 c = search needs
 
 returns : tie.Need-returns
 unfolding recordBytes
-returns c = sym (ap (λ (n : ℕ). recordBytes n - 1) (c .if1 .taken))
+returns c = sym (ap (λ (n : ℕ). recordBytes n plainForms - 1) (c .if1 .taken))
 
 returns-2 : tie.Need-returns-2
 unfolding recordBytes

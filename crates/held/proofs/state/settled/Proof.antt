@@ -5,6 +5,7 @@ use mathlib.Core.Path.{_≡_, sym, ap, _∙_}
 use Prim.Native.Nat.{ℕ, _-_, _≤_, min}
 use native.Mathlib.Omega.{arith}
 use lib.ListN.{length, take}
+use Rattle.records.specs.Forms.{plainForms}
 use Rattle.gridfile.specs.Reading.{begun}
 use Rattle.held.specs.declared.state.Reader.{Reader}
 use Rattle.held.specs.Held.{plain, partBytes, readerOf, recordBytes}
@@ -49,11 +50,11 @@ module _ (c : tie.After-least) where
   abbrev given : Reader
   given = c .before .before .before .before .before .before .before .args .reader
 
-  count : c .least .result ≡ min (given .held) (recordBytes (given .columns) - 1)
+  count : c .least .result ≡ min (given .held) (recordBytes (given .columns) plainForms - 1)
   count = c .least .ensures ∙ ap (min (given .held)) (c .before .most-held .ensures)
 
   few : c .least .result ≤ 9
-  few = omega (arith, count, some-bytes (given .columns))
+  few = omega (arith, count, some-bytes (given .columns) plainForms)
 
   sixteen : length (given .part) ≡ partBytes
   sixteen = search needs

@@ -10,9 +10,9 @@ use mir.Syntax.{w8, w32}
 use mir.Val as val
 use Rattle.ground.proofs.TestLaws.{passed}
 use Rattle.grid.specs.Grid.{Grid, gridOf, room}
-use Rattle.records.specs.Records.{cellBytes}
+use Rattle.records.specs.Forms.{cellBytes}
 use Rattle.records.specs.Numbers.{OfBytes}
-use Rattle.gridfile.specs.Reading.{between, kept}
+use Rattle.gridfile.specs.Reading.{headOf, between, kept}
 use Rattle.gridfile.proofs.WriteLaws.{shape-most}
 use Rattle.held.specs.declared.state.Reader.{Reader}
 use Rattle.held.specs.Held.{stateOf}
@@ -130,7 +130,7 @@ module _ (c : tie.After-between) where
   abbrev bytes : List ℕ
   bytes = take (cellBytes * took .take-records .result) (now (entry (before took) .args .fragment))
 
-  gone : {g : Grid} → g ≡ kept 0 (between (first .columns) (first .rows) (first .cells)) bytes (lent (before took)) → Turned (entry (before took) .args .space) (stateOf first) (now (entry (before took) .args .fragment)) (lent (before took)) (cellBytes * took .take-records .result) (c .between .result) g
+  gone : {g : Grid} → g ≡ kept 0 (between (headOf (first .columns) (first .rows)) (first .cells)) bytes (lent (before took)) → Turned (entry (before took) .args .space) (stateOf first) (now (entry (before took) .args .fragment)) (lent (before took)) (cellBytes * took .take-records .result) (c .between .result) g
   gone e =
       let at = here (before took) in
       let facts = took .take-records .ensures .0 in

@@ -9,7 +9,7 @@ use lib.ListN.{length}
 use denote.Ref.{now}
 use Rattle.grid.specs.declared.cells.MEStats.{MEStats}
 use Rattle.grid.specs.Grid.{Grid, gridOf, withCell}
-use Rattle.records.specs.Records.{cellBytes}
+use Rattle.records.specs.Forms.{cellBytes}
 use Rattle.gridfile.proofs.WriteLaws.{shape-most}
 use Rattle.gridfile.proofs.MarkLaws.{markedAt, mark-holds}
 use Rattle.gridfile.proofs.KeptLaws.{SameLengths}

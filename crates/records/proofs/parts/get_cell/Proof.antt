@@ -12,7 +12,8 @@ use mir.Val.{toZ}
 use Rattle.ground.proofs.Words.{back}
 use Rattle.ground.proofs.ListLaws.{slice-slice}
 use Rattle.records.specs.Numbers.{numberOf}
-use Rattle.records.specs.Records.{cellBytes, cellOf}
+use Rattle.records.specs.Forms.{cellBytes}
+use Rattle.records.specs.Records.{cellOf}
 use Rattle.records.proofs.NumberLaws.{two-below}
 use Rattle.records.proofs.parts.get_cell.Statement.{statement}
 use Rattle.records.proofs.parts.get_cell.Tie as tie

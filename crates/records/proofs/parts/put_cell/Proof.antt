@@ -12,7 +12,8 @@ use mir.Syntax.{w16, w32}
 use mir.Val.{Fits, SFits, ofZ, toZ}
 use mir.ValLaws.{ofZ-fits, toZ-ofZ}
 use Rattle.records.specs.Numbers.{bytesOf}
-use Rattle.records.specs.Records.{mark, cellRecord}
+use Rattle.records.specs.Forms.{mark}
+use Rattle.records.specs.Records.{cellRecord}
 use Rattle.records.proofs.NumberLaws.{puts-on, bytes-behind}
 use Rattle.records.proofs.parts.put_cell.Statement.{statement}
 use Rattle.records.proofs.parts.put_cell.Tie as tie
