@@ -1,4 +1,4 @@
-//! The rows of grid files: the largest grid written, and its file read.
+//! The rows of grid files: the largest grid written, its file read, and two compared.
 
 use std::hint::black_box;
 
@@ -9,7 +9,7 @@ use oracle::Grid;
 use crate::{
     clock::timed,
     lent::{lent, lent_mut, zeros},
-    loops,
+    loops, pairs,
     rounds::{Times, rounds},
 };
 
@@ -20,7 +20,11 @@ pub const NAMES: [&str; 3] = ["1 rust loop", "2 copy", "3 ours"];
 /// what they differ on.
 pub type Row = (&'static str, fn() -> Result<Times, String>);
 
-pub const ROWS: [Row; 2] = [("grid write", write_times), ("grid read", read_times)];
+pub const ROWS: [Row; 3] = [
+    ("grid write", write_times),
+    ("grid read", read_times),
+    ("grid compare", pairs::times),
+];
 
 /// A side in pixels, and the same in cells.
 const SIDE: usize = 1_024;
@@ -61,7 +65,7 @@ pub fn piece<T: Clone + PartialEq>(
     }
 }
 
-fn copy(file: &Vec<u8>, turns: usize) -> Result<f64, String> {
+pub fn copy(file: &Vec<u8>, turns: usize) -> Result<f64, String> {
     piece(&vec![0; BYTES], file, turns, |to| {
         to.copy_from_slice(black_box(file));
         true

@@ -1,4 +1,5 @@
-//! Grid files by plain loops of safe Rust, with every test that the proved code makes.
+//! Grid files, and two grids compared, by plain loops of safe Rust; of files with every
+//! test that the proved code makes.
 
 use oracle::Grid;
 
@@ -72,4 +73,21 @@ pub fn read(file: &[u8], grid: &mut Grid) -> Result<(usize, usize), u32> {
         *sad = u32::from_le_bytes([record[6], record[7], record[8], record[9]]);
     }
     Ok((columns, down))
+}
+
+/// How many cells of two grids of one size differ, and the first that does, or how
+/// many cells there are.
+pub fn compare(first: &Grid, second: &Grid) -> (u64, u64) {
+    let cells = first.sads.len();
+    let (mut count, mut place) = (0, cells);
+    for i in 0..cells {
+        let same = first.rows[i] == second.rows[i]
+            && first.cols[i] == second.cols[i]
+            && first.sads[i] == second.sads[i];
+        if !same {
+            place = place.min(i);
+            count += 1;
+        }
+    }
+    (count, place as u64)
 }

@@ -11,6 +11,7 @@ mod lent;
 mod load;
 mod loops;
 mod ours;
+mod pairs;
 mod published;
 mod rounds;
 mod rows;

@@ -16,7 +16,7 @@ ghost use mathlib.Core.Path.{_≡_};
 ghost use mathlib.Core.Bool.{true, false};
 ghost use Prim.Native.Nat.{_*_, _≤_};
 ghost use lib.ListN.{length};
-ghost use Rattle.records.specs.Records.{cellBytes};
+ghost use Rattle.records.specs.Forms.{cellBytes};
 ghost use Rattle.listing.specs.Parts.{lineRoom};
 ghost use Rattle.report.specs.Steps.{Open, Passed};
 ghost use Rattle.passes.specs.Shaped.{Shaped};

@@ -8,7 +8,7 @@ ghost use mathlib.Core.Path.{_≡_};
 ghost use mathlib.Core.Bool.{true};
 ghost use Prim.Native.Nat.{_*_, _≤_};
 ghost use lib.ListN.{length};
-ghost use Rattle.records.specs.Records.{cellBytes};
+ghost use Rattle.records.specs.Forms.{cellBytes};
 ghost use Rattle.passes.specs.Again.{allMarked, Loaded};
 
 // As many cells as are read before their lines are written.

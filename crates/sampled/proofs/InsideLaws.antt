@@ -3,7 +3,6 @@ use mathlib.Core.Path.{_≡_, refl}
 use mathlib.Core.Bool.{Bool, true, false, not, _&&_}
 use mathlib.Core.List.{List, [], _∷_, _++_}
 use Prim.Native.Nat.{ℕ, zero, suc, _+_, _-_, _*_, _/_, _≤_, _<_, min}
-use native.Mathlib.Nat.{add-mul, mul-comm, mul-le-mul-right}
 use native.Mathlib.Omega.{arith}
 use borrow.Author.Tests.{ltb-true}
 use lib.Dec.{ltb, eqb}
@@ -15,7 +14,7 @@ use Rattle.motion.specs.Level.{levelOf}
 use Rattle.motion.specs.Frame.{Side, Starts, Sized, Placed, own4, own3, own2, refined3, refined2}
 use Rattle.motion.specs.Block.{croppedTo}
 use Rattle.motion.proofs.AxisLaws.{fitting}
-use Rattle.grid.specs.Grid.{cells, cellAt}
+use Rattle.grid.specs.Grid.{cells}
 use Rattle.grid.proofs.CellLaws.{cell-inside}
 use Rattle.sampled.specs.Sampled.{cellsAlong, taken, neighbours, centreCell, oddBlock, cellsB, cellsC, cellsCentre}
 

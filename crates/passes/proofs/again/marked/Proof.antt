@@ -8,7 +8,7 @@ use lib.ListN.{length}
 use denote.Ref.{now}
 use Rattle.ground.specs.Every.{allBelow}
 use Rattle.ground.proofs.EveryLaws.{below-none, below-more, below-fails}
-use Rattle.records.specs.Records.{cellBytes}
+use Rattle.records.specs.Forms.{cellBytes}
 use Rattle.gridfile.proofs.MarkLaws.{markedAt, mark-holds, mark-fails}
 use Rattle.passes.specs.Again.{allMarked}
 use Rattle.passes.proofs.again.marked.Statement.{statement}

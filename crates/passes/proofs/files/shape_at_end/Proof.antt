@@ -3,7 +3,7 @@ use borrow.Author.Needs.{needs}
 use borrow.Author.Tests.{eqb-true, eqb-false, ltb-true}
 use mathlib.Core.Path.{_≡_, refl, sym, ap, _∙_}
 use mathlib.Core.Bool.{Bool, true, false, cond}
-use Prim.Native.Nat.{ℕ, _*_, _≤_, _<_}
+use Prim.Native.Nat.{_*_, _≤_, _<_}
 use native.Mathlib.Omega.{arith}
 use lib.Dec.{ltb, leb, eqb}
 use Rattle.ground.proofs.TestLaws.{both}
@@ -23,8 +23,8 @@ module _ (r : Reader) where
   by true e z =
       let s = stateOf r in
       let parts = none-of (s .code) (refuse 11 (whole s)) (eqb-true (ended s) 0 e) in
-      let some = both (ltb 0 (s .columns)) (leb (s .columns * s .rows) (s .cells)) (passes 10 (whole s) (parts .1)) .0 in
-      (ltb-true 0 (s .columns) some, sound-of r .columns z, sound-of r .rows z)
+      let some = both (ltb 0 (s .head .columns)) (leb (s .head .columns * s .head .rows) (s .cells)) (passes 10 (whole s) (parts .1)) .0 in
+      (ltb-true 0 (s .head .columns) some, sound-of r .columns z, sound-of r .rows z)
   by false e z = absurd (eqb-false (ended (stateOf r)) 0 e z)
 
   at-end : endReader r .code ≡ 0 → (0 < endReader r .columns) × (endReader r .columns ≤ 256) × (endReader r .rows ≤ 256)
