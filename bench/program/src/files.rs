@@ -1,4 +1,4 @@
-//! The rows of grid files: the largest grid written, its file read, and two compared.
+//! The rows of grid files: the largest grid written, and its file read.
 
 use std::hint::black_box;
 
@@ -9,7 +9,7 @@ use oracle::Grid;
 use crate::{
     clock::timed,
     lent::{lent, lent_mut, zeros},
-    loops, pairs,
+    loops,
     rounds::{Times, rounds},
 };
 
@@ -20,11 +20,7 @@ pub const NAMES: [&str; 3] = ["1 rust loop", "2 copy", "3 ours"];
 /// what they differ on.
 pub type Row = (&'static str, fn() -> Result<Times, String>);
 
-pub const ROWS: [Row; 3] = [
-    ("grid write", write_times),
-    ("grid read", read_times),
-    ("grid compare", pairs::times),
-];
+pub const ROWS: [Row; 2] = [("grid write", write_times), ("grid read", read_times)];
 
 /// A side in pixels, and the same in cells.
 const SIDE: usize = 1_024;

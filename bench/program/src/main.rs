@@ -129,7 +129,7 @@ impl Asked {
             table: Row::table(),
             rest: Row::growth(),
             with_sads: "sad".contains(only),
-            files: files::ROWS.to_vec(),
+            files: [&files::ROWS[..], &[pairs::ROW]].concat(),
             fragments: fragments::ROWS.to_vec(),
         };
         asked.table.retain(|row| row.name().contains(only));

@@ -6,11 +6,13 @@ use lockdapple_sys::{Comparison, Shape, grids_compare};
 use oracle::Grid;
 
 use crate::{
-    files::{ACROSS, copy, kept, piece},
+    files::{ACROSS, Row, copy, kept, piece},
     lent::lent,
     loops,
     rounds::{Times, rounds},
 };
+
+pub const ROW: Row = ("grid compare", times);
 
 /// The shape that reading the largest file gives back.
 const SHAPE: Shape = Shape {
@@ -29,7 +31,7 @@ fn compare(first: &Grid, second: &Grid) -> (u64, u64) {
 
 /// The times of comparing two grids; or, where the columns answer differently, what
 /// they differ on.
-pub fn times() -> Result<Times, String> {
+fn times() -> Result<Times, String> {
     let (grid, file) = kept();
     let mut other = grid.clone();
     // One cell of sixteen, the first of them in the second row, by each of its numbers.
