@@ -1,7 +1,7 @@
 //! What a column can be asked for, everything but the call itself made ready before
 //! its time counts.
 
-use oracle::{BlockAt, Grid};
+use oracle::{BlockAt, Found, Grid, Search};
 
 use crate::clock::timed;
 
@@ -15,6 +15,9 @@ pub trait Column {
 
     /// Nanoseconds of the cost of one of these vectors, and the sum of the costs.
     fn costs(&self, at: &BlockAt, vectors: &[Vector], turns: usize) -> (f64, u64);
+
+    /// Nanoseconds of one of `turns` searches from a vector, and what it finds.
+    fn searches(&self, search: Search, at: &BlockAt, start: Vector, turns: usize) -> (f64, Found);
 
     /// Nanoseconds of the SAD of one of these vectors by the kernel alone, and the
     /// sum of the SADs; None where it cannot be called.

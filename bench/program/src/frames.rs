@@ -12,15 +12,24 @@ pub enum Content {
     /// A smooth texture whose blocks of 16 move each on its own, under noise.
     Blocks,
     Flat,
+    /// A still background with a little noise, and one figure that walks.
+    Lobby,
+    /// The same, the second frame brighter.
+    Lights,
 }
 
 impl Content {
-    pub const ALL: [Content; 4] = [
+    pub const ALL: [Content; 6] = [
         Content::Noise,
         Content::Global,
         Content::Blocks,
         Content::Flat,
+        Content::Lobby,
+        Content::Lights,
     ];
+
+    /// Those that a camera which stands still gives, one frame after the other.
+    pub const STILL: [Content; 2] = [Content::Lobby, Content::Lights];
 
     pub fn name(self) -> &'static str {
         match self {
@@ -28,6 +37,8 @@ impl Content {
             Content::Global => "global",
             Content::Blocks => "blocks",
             Content::Flat => "flat",
+            Content::Lobby => "lobby",
+            Content::Lights => "lights",
         }
     }
 }
@@ -40,6 +51,16 @@ const MARGIN: usize = 80;
 const MOVED: (isize, isize) = (5, -3);
 const BLOCK_MOVED: isize = 6;
 const NOISE: isize = 4;
+
+/// Of a still camera: the most that a sample is off, how much brighter the second frame
+/// is where the lights come up, and the figure: its first column and row from the
+/// frame's, its columns and rows, and how far it walks from the reference to the
+/// current frame.
+const STILL_NOISE: isize = 2;
+const BRIGHTER: isize = 12;
+const FIGURE_AT: (isize, isize) = (104, 72);
+const FIGURE: (isize, isize) = (48, 112);
+const WALKED: isize = 3;
 
 /// A number that hangs on the place alone.
 fn random_at(what: u64, x: usize, y: usize) -> Random {
@@ -59,6 +80,20 @@ fn texture(x: isize, y: isize) -> isize {
     ((3 * waves(24, x, y) + 2 * waves(6, x, y)) / 5) as isize
 }
 
+/// The background, or the figure in front of it, which has a texture of its own.
+fn lobby(which: u64, col: isize, row: isize) -> isize {
+    let walked = if which == 0 { WALKED } else { 0 };
+    let margin = MARGIN as isize;
+    let (x, y) = (
+        col - margin - FIGURE_AT.0 - walked,
+        row - margin - FIGURE_AT.1,
+    );
+    match (0..FIGURE.0).contains(&x) && (0..FIGURE.1).contains(&y) {
+        true => texture(x + 2_048, y + 2_048),
+        false => texture(col, row),
+    }
+}
+
 /// A full-size sample of the current frame (0) or the reference (1), its place
 /// counted from MARGIN pixels before the frame.
 fn sample(content: Content, which: u64, x: usize, y: usize) -> u8 {
@@ -66,6 +101,11 @@ fn sample(content: Content, which: u64, x: usize, y: usize) -> u8 {
     let value = match (content, which) {
         (Content::Noise, _) => random_at(1 + which, x, y).below(256) as isize,
         (Content::Flat, _) => 90,
+        (Content::Lobby | Content::Lights, _) => {
+            let noise = random_at(5 + which, x, y).between(-STILL_NOISE, STILL_NOISE);
+            let lit = content == Content::Lights && which == 0;
+            lobby(which, col, row) + noise + if lit { BRIGHTER } else { 0 }
+        }
         (_, 1) => texture(col, row),
         (Content::Global, _) => texture(col + MOVED.0, row + MOVED.1),
         (Content::Blocks, _) => {

@@ -16,6 +16,7 @@ mod published;
 mod rounds;
 mod rows;
 mod sads;
+mod searches;
 
 use std::{env, process::ExitCode};
 
@@ -92,6 +93,16 @@ fn print_sads() -> Result<(), String> {
     Ok(())
 }
 
+fn print_searches(rows: &[searches::Row]) -> Result<(), String> {
+    if !rows.is_empty() {
+        heading("single searches on 256x256, nanoseconds", &NAMES, RATIOS);
+    }
+    for row in rows {
+        line(&row.name(), &row.time()?, 1.0);
+    }
+    Ok(())
+}
+
 fn print_files(rows: &[files::Row]) -> Result<(), String> {
     if !rows.is_empty() {
         let what = "a grid file of 256x256 cells, microseconds";
@@ -119,6 +130,7 @@ struct Asked {
     table: Vec<Row>,
     rest: Vec<Row>,
     with_sads: bool,
+    searches: Vec<searches::Row>,
     files: Vec<files::Row>,
     fragments: Vec<fragments::Row>,
 }
@@ -129,11 +141,13 @@ impl Asked {
             table: Row::table(),
             rest: Row::growth(),
             with_sads: "sad".contains(only),
+            searches: searches::Row::all(),
             files: [&files::ROWS[..], &[pairs::ROW]].concat(),
             fragments: fragments::ROWS.to_vec(),
         };
         asked.table.retain(|row| row.name().contains(only));
         asked.rest.retain(|row| row.name().contains(only));
+        asked.searches.retain(|row| row.name().contains(only));
         asked.files.retain(|(name, _)| name.contains(only));
         asked.fragments.retain(|(name, _)| name.contains(only));
         asked
@@ -141,7 +155,8 @@ impl Asked {
 
     fn is_empty(&self) -> bool {
         let no_frames = self.table.is_empty() && self.rest.is_empty() && !self.with_sads;
-        no_frames && self.files.is_empty() && self.fragments.is_empty()
+        let no_files = self.files.is_empty() && self.fragments.is_empty();
+        no_frames && self.searches.is_empty() && no_files
     }
 }
 
@@ -158,6 +173,7 @@ fn bench(asked: &Asked) -> Result<(), String> {
     if asked.with_sads {
         print_sads()?;
     }
+    print_searches(&asked.searches)?;
     print_files(&asked.files)?;
     print_fragments(&asked.fragments)?;
     let worst = [0, 1].map(|other| {

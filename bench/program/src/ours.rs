@@ -2,7 +2,7 @@
 
 use cases::Frame;
 use lockdapple_sys::{self as sys, Block, Planes, Previous};
-use oracle::{BlockAt, Grid};
+use oracle::{BlockAt, Found, Grid, Search};
 
 use crate::{
     clock::timed,
@@ -50,15 +50,28 @@ impl<'a> Ours<'a> {
 
     fn cost(&self, at: &BlockAt, (row, col): Vector) -> u64 {
         let [[cur, ..], [reference, ..]] = &self.frame.planes;
-        let block = Block {
-            width: at.width,
-            height: at.height,
-            level: at.level,
-            bx: at.bx,
-            by: at.by,
-        };
         let vector = sys::Vector { row, col };
-        sys::candidate(block, at.refined.into(), cur, reference, vector, 0).cost
+        sys::candidate(block(at), at.refined.into(), cur, reference, vector, 0).cost
+    }
+
+    fn search(&self, search: Search, at: &BlockAt, (row, col): Vector) -> sys::Found {
+        let [[cur, ..], [reference, ..]] = &self.frame.planes;
+        let search = match search {
+            Search::Diamond => sys::diamond,
+            Search::Hexagon => sys::hexagon,
+            Search::UnevenMultiHexagon => sys::multi_hexagon,
+        };
+        search(block(at), cur, reference, sys::Vector { row, col }, 0)
+    }
+}
+
+fn block(at: &BlockAt) -> Block {
+    Block {
+        width: at.width,
+        height: at.height,
+        level: at.level,
+        bx: at.bx,
+        by: at.by,
     }
 }
 
@@ -75,6 +88,29 @@ impl Column for Ours<'_> {
         summed(vectors.len(), turns, || {
             vectors.iter().map(cost).fold(0, u64::wrapping_add)
         })
+    }
+
+    fn searches(&self, search: Search, at: &BlockAt, start: Vector, turns: usize) -> (f64, Found) {
+        assert_eq!(at.level, 2);
+        let mut last = None;
+        let time = timed(turns, || last = Some(self.search(search, at, start)));
+        let sys::Found {
+            code,
+            row,
+            col,
+            sad,
+            cost,
+        } = last.unwrap();
+        assert_eq!(code, 0);
+        (
+            time,
+            Found {
+                row,
+                col,
+                sad,
+                cost,
+            },
+        )
     }
 
     /// It exports no bare SAD.

@@ -2,7 +2,7 @@
 //! processor's own instructions.
 
 use cases::Frame;
-use oracle::{BlockAt, Grid};
+use oracle::{BlockAt, Found, Grid, Search};
 
 use crate::{
     clock::timed,
@@ -60,6 +60,41 @@ macro_rules! published {
             fn costs(&self, at: &BlockAt, vectors: &[Vector], turns: usize) -> (f64, u64) {
                 let costs = |sum: &mut dyn FnMut() -> u64| summed(vectors.len(), turns, sum);
                 self.0.ready_costs(&Self::block(at), vectors, costs)
+            }
+
+            fn searches(
+                &self,
+                search: Search,
+                at: &BlockAt,
+                (row, col): Vector,
+                turns: usize,
+            ) -> (f64, Found) {
+                let search = match search {
+                    Search::Diamond => $published::Search::Diamond,
+                    Search::Hexagon => $published::Search::Hexagon,
+                    Search::UnevenMultiHexagon => $published::Search::UnevenMultiHexagon,
+                };
+                let at = Self::block(at);
+                let (time, found) = self.0.ready_search(search, &at, row, col, 0, |found| {
+                    let mut last = None;
+                    let time = timed(turns, || last = Some(found()));
+                    (time, last.unwrap())
+                });
+                let $published::Found {
+                    row,
+                    col,
+                    sad,
+                    cost,
+                } = found;
+                (
+                    time,
+                    Found {
+                        row,
+                        col,
+                        sad,
+                        cost,
+                    },
+                )
             }
 
             fn sads(&self, at: &BlockAt, vectors: &[Vector], turns: usize) -> Option<(f64, u32)> {

@@ -47,9 +47,12 @@ impl Row {
         rows
     }
 
-    /// The rows of the table.
+    /// The rows of the table; a still camera has a frame before.
     pub fn table() -> Vec<Row> {
-        Row::each(&SIZES, &Content::ALL, &[false, true])
+        let still = |row: &Row| Content::STILL.contains(&row.content);
+        let mut rows = Row::each(&SIZES, &Content::ALL, &[false, true]);
+        rows.retain(|row| row.previous || !still(row));
+        rows
     }
 
     /// The rows that only the growth has.

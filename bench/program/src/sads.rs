@@ -14,7 +14,7 @@ use crate::{
     rounds::ROUNDS,
 };
 
-const SIDE: usize = 256;
+pub const SIDE: usize = 256;
 const STRIDE: usize = SIDE + 2 * PAD[0];
 
 /// Times that all vectors are gone through for each block.
@@ -24,7 +24,7 @@ const TURNS: usize = 200;
 const OUT: i16 = 8 * 1_000;
 
 /// Blocks away from the edge.
-fn blocks() -> impl Iterator<Item = BlockAt> {
+pub fn blocks() -> impl Iterator<Item = BlockAt> {
     (0..16).map(|i| BlockAt {
         width: SIDE,
         height: SIDE,

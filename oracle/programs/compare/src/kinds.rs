@@ -1,6 +1,7 @@
 //! The kinds of case, one file each but for the searches.
 
 mod candidate;
+mod limit;
 mod lists;
 mod predictors;
 mod range;
@@ -16,7 +17,7 @@ use crate::kind::Kind;
 
 /// Every kind there is, with its cases in a round: a run costs as much as many
 /// of the others.
-pub const KINDS: [(&dyn Kind, usize); 13] = [
+pub const KINDS: [(&dyn Kind, usize); 14] = [
     (&rate::Rate, 4),
     (&range::Range, 4),
     (&sad::Sad, 4),
@@ -24,6 +25,7 @@ pub const KINDS: [(&dyn Kind, usize); 13] = [
     (&search::DIAMOND, 4),
     (&search::HEXAGON, 4),
     (&search::MULTI_HEXAGON, 4),
+    (&limit::Limit, 4),
     (&refine::Refine, 4),
     (&predictors::Predictors, 8),
     (&step::Step, 6),

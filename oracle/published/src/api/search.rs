@@ -76,6 +76,35 @@ impl Block<'_> {
     }
 }
 
+impl Block<'_> {
+    fn search(&self, search: Search, mv: MotionVector, weight: u32) -> Found {
+        let mut current = inter::MotionSearchResult {
+            mv,
+            rd: self.rd(mv, weight),
+        };
+        let MvRange {
+            mvx_min: x0,
+            mvx_max: x1,
+            mvy_min: y0,
+            mvy_max: y1,
+        } = self.range;
+        let (po, org, p_ref, best) = (self.po, &self.org_region, self.p_ref, &mut current);
+        let (w, h) = (self.w, self.h);
+        match search {
+            Search::Diamond => inter::fullpel_diamond_search(
+                po, org, p_ref, best, BIT_DEPTH, weight, x0, x1, y0, y1, w, h,
+            ),
+            Search::Hexagon => inter::hexagon_search(
+                po, org, p_ref, best, BIT_DEPTH, weight, x0, x1, y0, y1, w, h,
+            ),
+            Search::UnevenMultiHexagon => inter::uneven_multi_hex_search(
+                po, org, p_ref, best, BIT_DEPTH, weight, x0, x1, y0, y1, w, h, 24,
+            ),
+        }
+        current.into()
+    }
+}
+
 impl Oracle {
     /// Sets a block up as `estimate_motion` and
     /// `refine_subsampled_motion_estimate` do.
@@ -155,31 +184,22 @@ impl Oracle {
 
     /// One search from a start vector at shift s.
     pub fn search(&self, search: Search, at: &BlockAt, row: i16, col: i16, weight: u32) -> Found {
+        self.ready_search(search, at, row, col, weight, |found| found())
+    }
+
+    /// Runs `body` with a block ready: what it is given searches from the start vector,
+    /// and does nothing else.
+    pub fn ready_search<R>(
+        &self,
+        search: Search,
+        at: &BlockAt,
+        row: i16,
+        col: i16,
+        weight: u32,
+        body: impl FnOnce(&mut dyn FnMut() -> Found) -> R,
+    ) -> R {
         self.on_block(at, |b| {
-            let mv = MotionVector { row, col };
-            let mut current = inter::MotionSearchResult {
-                mv,
-                rd: b.rd(mv, weight),
-            };
-            let MvRange {
-                mvx_min: x0,
-                mvx_max: x1,
-                mvy_min: y0,
-                mvy_max: y1,
-            } = b.range;
-            let (po, org, p_ref, best) = (b.po, &b.org_region, b.p_ref, &mut current);
-            match search {
-                Search::Diamond => inter::fullpel_diamond_search(
-                    po, org, p_ref, best, BIT_DEPTH, weight, x0, x1, y0, y1, b.w, b.h,
-                ),
-                Search::Hexagon => inter::hexagon_search(
-                    po, org, p_ref, best, BIT_DEPTH, weight, x0, x1, y0, y1, b.w, b.h,
-                ),
-                Search::UnevenMultiHexagon => inter::uneven_multi_hex_search(
-                    po, org, p_ref, best, BIT_DEPTH, weight, x0, x1, y0, y1, b.w, b.h, 24,
-                ),
-            }
-            current.into()
+            body(&mut || black_box(&b).search(search, MotionVector { row, col }, weight))
         })
     }
 }
