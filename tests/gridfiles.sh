@@ -68,12 +68,15 @@ mkfifo "$dir/pipe"
 # twice FIRST SECOND: writes the one to whoever opens the pipe first, the other to whoever opens it next.
 twice() { (cd "$dir" && cat "$1" >pipe && sleep 1 && cat "$2" >pipe); }
 
-# full NAMES..: lines that can't be written give words.
+# full NAMES..: lines that can't be written give words, and status 2.
 full() {
+    local is=0
     cases=$((cases + 1))
     (cd "$dir" && start "$program" "$@") >/dev/full 2>"$dir/stderr"
     echo 'standard output: No space left on device' >"$dir/stderr.expected"
     same 'a full disk' stderr
+    (cd "$dir" && "$root/tools/run" "$program" "$@") >/dev/full 2>"$dir/stderr" || is=$?
+    [ "$is" = 2 ] || { echo "$program: a full disk: status $is, not 2" >&2; exit 1; }
 }
 
 flat=$(header 2 2)$(times 4 "$(cell -24 -24 0)")

@@ -19,6 +19,7 @@ ghost use lib.ListN.{length};
 ghost use Rattle.records.specs.Forms.{cellBytes};
 ghost use Rattle.listing.specs.Parts.{lineRoom};
 ghost use Rattle.report.specs.Steps.{Open, Passed};
+ghost use Rattle.passes.specs.Again.{blockCells};
 ghost use Rattle.passes.specs.Shaped.{Shaped};
 
 // Both files beside each other: the report so far, the sums of both, and whether it goes on.
@@ -89,7 +90,7 @@ fn pass_cells(
     out: &mut [u8],
 ) -> Pass
     requires { ⌜ Open (start .report) cells × (start .report .next ≡ 0) ⌝ }
-    requires { ⌜ (cellBytes * 256 ≤ length (now a)) × (cellBytes * 256 ≤ length (now b)) × (lineRoom * 256 ≤ length (now out)) ⌝ }
+    requires { ⌜ (cellBytes * blockCells ≤ length (now a)) × (cellBytes * blockCells ≤ length (now b)) × (lineRoom * blockCells ≤ length (now out)) ⌝ }
 {
     let mut pass = start;
     while pass.report.next < cells {

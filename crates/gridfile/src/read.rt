@@ -103,7 +103,7 @@ fn marks_hold(file: &[u8], count: usize) -> bool
 
 // The cells, and bytes left over: refusals 10 and 11, from the front.
 pub(crate) fn cells_refusal(file: &[u8], columns: usize, rows: usize) -> u32
-    requires { ⌜ (headerBytes ≤ length (now file)) × (0 < columns) × (columns ≤ 256) × (rows ≤ 256) ⌝ }
+    requires { ⌜ (headerBytes ≤ length (now file)) × (0 < columns) × (columns ≤ mostCells) × (rows ≤ mostCells) ⌝ }
     ensures { λ r. ⌜ r ≡ ended (taken 0 (between (headOf columns rows) 0) (drop headerBytes (now (file .entry)))) ⌝ }
 {
     let count = columns * rows;
@@ -135,7 +135,7 @@ pub(crate) fn get_cells(
     cols: &mut [i16],
     sads: &mut [u32],
 )
-    requires { ⌜ (headerBytes ≤ length (now file)) × (0 < columns) × (columns ≤ 256) × (down ≤ 256) × (ended (taken 0 (between (headOf columns down) 0) (drop headerBytes (now file))) ≡ 0) ⌝ }
+    requires { ⌜ (headerBytes ≤ length (now file)) × (0 < columns) × (columns ≤ mostCells) × (down ≤ mostCells) × (ended (taken 0 (between (headOf columns down) 0) (drop headerBytes (now file))) ≡ 0) ⌝ }
     requires { ⌜ (columns * down ≤ length (now rows)) × (columns * down ≤ length (now cols)) × (columns * down ≤ length (now sads)) ⌝ }
     ensures { λ r. ⌜ exitGrid rows cols sads ≡ kept 0 (between (headOf columns down) 0) (drop headerBytes (now (file .entry))) (entryGrid rows cols sads) ⌝ }
 {

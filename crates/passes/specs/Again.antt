@@ -10,6 +10,10 @@ use Rattle.gridfile.specs.Reading.{marked}
 use Rattle.passes.specs.declared.again.Again.{Again}
 use Rattle.passes.specs.Sums.{sumOver}
 
+-- as many cells as are read before their lines are written
+abbrev pub blockCells : ℕ
+blockCells = 256
+
 -- whether each of so many records starts with the mark
 unfoldable pub allMarked : List ℕ → ℕ → Bool
 allMarked block count =

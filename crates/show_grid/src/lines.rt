@@ -19,6 +19,7 @@ ghost use lib.ListN.{length};
 ghost use Rattle.records.specs.Forms.{cellBytes};
 ghost use Rattle.listing.specs.Parts.{lineRoom};
 ghost use Rattle.listing.specs.Steps.{Open, later};
+ghost use Rattle.passes.specs.Again.{blockCells};
 ghost use Rattle.passes.specs.Shaped.{Shaped};
 
 // The file gone through again: the listing so far, the sum over the bytes, and whether it goes on.
@@ -58,8 +59,8 @@ fn show_block(
     out: &mut [u8],
 ) -> Pass
     requires { ⌜ (pass .listing .next < cells) × Open (pass .listing) (cells - pass .listing .next) ⌝ }
-    requires { ⌜ (cellBytes * 256 ≤ length (now block)) × (lineRoom * 256 ≤ length (now out)) ⌝ }
-    ensures { λ r. ⌜ (r .on ≡ true → r .listing ≡ later (pass .listing) (min 256 (cells - pass .listing .next))) ⌝ }
+    requires { ⌜ (cellBytes * blockCells ≤ length (now block)) × (lineRoom * blockCells ≤ length (now out)) ⌝ }
+    ensures { λ r. ⌜ (r .on ≡ true → r .listing ≡ later (pass .listing) (min blockCells (cells - pass .listing .next))) ⌝ }
 {
     let count = least(BLOCK, cells - pass.listing.next);
     let next = load(fd, 1, pass.sum, count, block);
@@ -86,7 +87,7 @@ fn show_block(
 // The lines of all cells, block by block.
 fn show_cells(start: Pass, fd: i32, cells: usize, checked: u64, block: &mut [u8], out: &mut [u8])
     requires { ⌜ Open (start .listing) cells × (start .listing .next ≡ 0) ⌝ }
-    requires { ⌜ (cellBytes * 256 ≤ length (now block)) × (lineRoom * 256 ≤ length (now out)) ⌝ }
+    requires { ⌜ (cellBytes * blockCells ≤ length (now block)) × (lineRoom * blockCells ≤ length (now out)) ⌝ }
 {
     let mut pass = start;
     while pass.listing.next < cells {
