@@ -1,9 +1,9 @@
 -- The cost of a candidate by cases, and the bounds that make u32 and u64 enough. Assumes nothing.
-use mathlib.Core.Path.{_≡_, sym, ap, ap₂, subst, _∙_}
+use mathlib.Core.Path.{_≡_, sym, ap, ap₂, subst}
 use mathlib.Core.Bool.{Bool, true, false, cond}
 use mathlib.Core.Logic.{_⊎_, inl, inr}
 use mathlib.Core.List.{List}
-use Prim.Native.Nat.{ℕ, _-_, _*_, _≤_, _<_, _^_}
+use Prim.Native.Nat.{ℕ, _+_, _-_, _*_, _≤_, _<_, _^_}
 use native.Mathlib.Nat.{le-trans, mul-le-mul, mul-le-mul-left, mul-le-mul-right}
 use native.Mathlib.Omega.{arith}
 use lib.ListN.{getD}
@@ -16,7 +16,7 @@ use Rattle.motion.proofs.RateLaws.{rateV-le}
 use Rattle.sad.specs.Sad.{sadBlock}
 use Rattle.sad.specs.Asked.{Inside, largestBlock, largestPlace, Measured, Lies}
 use Rattle.sad.specs.Plane.{orgStart, refStart}
-use Rattle.sad.specs.Cost.{emptyRd, rdOf, sadAt, rdAt}
+use Rattle.sad.specs.Cost.{emptyRd, rdOf, sadAt, rdAt, sadLimit}
 use Rattle.sad.proofs.Sums.{Under, block-le, block-same}
 
 -- the largest sum that a block of bytes has
@@ -50,6 +50,11 @@ pub in-range-most : (b : Block) (cur ref : List ℕ) (v : MotionVector) → Meas
 in-range-most b cur ref v m hc hr hw h =
     rw (rd-in b cur ref v h) (cost-most (b .weight) (sadAt b cur ref v) v hw (omega (arith, sad-most b cur ref v m hc hr)))
 
+-- a sum that reaches the limit makes the cost
+pub limit-lost : (cost rate sad : ℕ) → sadLimit cost rate ≤ sad → cost ≤ 256 * sad + rate
+unfolding sadLimit
+limit-lost cost rate sad reached = omega arith
+
 -- a vector in range, measured from where the two blocks start
 module _ (b : Block) (v : MotionVector) (held : inRange (b .range) v ≡ true) (s d : ℕ) (org : s ≡ orgStart b) (ref : d ≡ refStart b v) where
   pub starts-inside : (n m : ℕ) → Lies b n → Lies b m → (Inside n s (b .stride) (b .w) (b .h) × Inside m d (b .stride) (b .w) (b .h)) × ((b .w ≤ largestBlock) × (b .h ≤ largestBlock) × (b .stride ≤ largestPlace))
@@ -58,9 +63,9 @@ module _ (b : Block) (v : MotionVector) (held : inRange (b .range) v ≡ true) (
       let at-ref = subst (λ (d : ℕ). Inside m d (b .stride) (b .w) (b .h)) (sym ref) (lr .ref v held) in
       ((at-org, at-ref), (lo .measured .wide, lo .measured .high, lo .measured .stride))
 
-  pub sad-from : (cur refs : List ℕ) {r : ℕ} → r ≡ sadBlock cur s refs d (b .stride) (b .w) (b .h) → r ≡ sadAt b cur refs v
+  pub sad-from : (cur refs : List ℕ) → sadBlock cur s refs d (b .stride) (b .w) (b .h) ≡ sadAt b cur refs v
   unfolding sadAt
-  sad-from cur refs e = e ∙ ap₂ (λ (s d : ℕ). sadBlock cur s refs d (b .stride) (b .w) (b .h)) org ref
+  sad-from cur refs = ap₂ (λ (s d : ℕ). sadBlock cur s refs d (b .stride) (b .w) (b .h)) org ref
 
 -- nor do samples past those that a block lies in
 module _ (b : Block) (n : ℕ) (cur cur′ ref ref′ : List ℕ) (lies : Lies b n) (hc : (k : ℕ) → k < n → getD cur k 0 ≡ getD cur′ k 0) (hr : (k : ℕ) → k < n → getD ref k 0 ≡ getD ref′ k 0) where

@@ -1,6 +1,5 @@
 -- Laws that several proofs and other crates cite.
 pub mod Sums
-pub mod Turns
 pub mod Places
 pub mod Contained
 pub mod CostLaws

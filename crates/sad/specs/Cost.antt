@@ -1,7 +1,7 @@
 -- The cost of a candidate.
 use mathlib.Core.Bool.{cond}
 use mathlib.Core.List.{List}
-use Prim.Native.Nat.{ℕ, _+_, _-_, _*_, _^_}
+use Prim.Native.Nat.{ℕ, _+_, _-_, _*_, _/_, _^_}
 use Rattle.motion.specs.declared.block.Block.{Block}
 use Rattle.motion.specs.declared.vector.MotionVector.{MotionVector}
 use Rattle.motion.specs.Range.{inRange}
@@ -25,3 +25,7 @@ sadAt b cur ref v = sadBlock cur (orgStart b) ref (refStart b v) (b .stride) (b 
 -- what a vector costs a block
 unfoldable pub rdAt : (b : Block) (cur ref : List ℕ) (v : MotionVector) → MVCandidateRD
 rdAt b cur ref v = cond (inRange (b .range) v) (rdOf (b .weight) (sadAt b cur ref v) v) emptyRd
+
+-- the least sum at which 256 times the sum plus the rate part reaches a cost
+unfoldable pub sadLimit : (cost rate : ℕ) → ℕ
+sadLimit cost rate = (cost - rate + 255) / 256

@@ -4,4 +4,3 @@ pub mod Plane
 pub mod Cost
 -- what inner functions ask, and no reader need believe
 pub mod Asked
-pub mod Runs

@@ -5,9 +5,11 @@ use motion::block::Block;
 use motion::rate::get_mv_rate;
 use motion::vector::MotionVector;
 ghost use mathlib.Core.Path.{_≡_};
+ghost use Prim.Native.Nat.{_*_};
 ghost use lib.ListN.{length};
+ghost use Rattle.motion.specs.Rate.{rateV};
 ghost use Rattle.sad.specs.Asked.{Lies};
-ghost use Rattle.sad.specs.Cost.{emptyRd, rdOf, rdAt};
+ghost use Rattle.sad.specs.Cost.{emptyRd, rdOf, rdAt, sadLimit};
 
 // The cost of a candidate, with its sum of absolute differences.
 pub struct MVCandidateRD {
@@ -27,21 +29,33 @@ impl MVCandidateRD {
     }
 }
 
+// What a vector's rate adds to a cost: nothing at weight 0, that of a run.
+pub fn rate_part(weight: u32, cand_mv: MotionVector) -> u64
+    ensures { λ r. ⌜ r ≡ rateV «cand_mv» * weight ⌝ }
+{
+    if weight == 0 {
+        return 0;
+    }
+    get_mv_rate(cand_mv) as u64 * weight as u64
+}
+
 pub fn compute_mv_rd(weight: u32, sad: u32, cand_mv: MotionVector) -> MVCandidateRD
     ensures { λ r. ⌜ r ≡ rdOf weight sad «cand_mv» ⌝ }
 {
-    // At weight 0, that of a run, the rate counts for nothing.
-    if weight == 0 {
-        return MVCandidateRD {
-            cost: 256 * sad as u64,
-            sad,
-        };
-    }
-    let rate = get_mv_rate(cand_mv);
     MVCandidateRD {
-        cost: 256 * sad as u64 + rate as u64 * weight as u64,
+        cost: 256 * sad as u64 + rate_part(weight, cand_mv),
         sad,
     }
+}
+
+// The least sum with which a candidate of such a rate part reaches a cost.
+pub fn sad_limit(cost: u64, rate: u64) -> u64
+    ensures { λ r. ⌜ r ≡ sadLimit cost rate ⌝ }
+{
+    if cost <= rate {
+        return 0;
+    }
+    (cost - rate - 1) / 256 + 1
 }
 
 // The cost of moving a block by a vector, in range or not.

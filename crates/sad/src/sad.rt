@@ -1,10 +1,9 @@
 ghost use mathlib.Core.Path.{_≡_};
-ghost use mathlib.Core.Bool.{true};
-ghost use Prim.Native.Nat.{_+_, _≤_};
+ghost use Prim.Native.Nat.{_+_, _*_, _%_, _≤_, min};
 ghost use lib.ListN.{length};
+ghost use Rattle.motion.specs.Limits.{largestSample};
 ghost use Rattle.sad.specs.Sad.{absDiff, sadRow, sadBlock};
 ghost use Rattle.sad.specs.Asked.{Inside, largestBlock, largestPlace};
-ghost use Rattle.sad.specs.Runs.{runsOf, inRuns};
 
 // A difference of signed numbers, which the compiler knows for the processor's own sum of absolute differences.
 fn abs_diff(p1: u8, p2: u8) -> u32
@@ -18,10 +17,10 @@ fn abs_diff(p1: u8, p2: u8) -> u32
     }
 }
 
-// One row of w samples from `src` of the one slice and `dst` of the other.
+// A row of w samples from `src` of the one slice and `dst` of the other.
 fn sad_row(cur: &[u8], src: usize, reference: &[u8], dst: usize, w: usize) -> u32
     requires { ⌜ (src + w ≤ length (now cur)) × (dst + w ≤ length (now reference)) × (w ≤ largestBlock) ⌝ }
-    ensures { λ r. ⌜ r ≡ sadRow (now (cur .entry)) src (now (reference .entry)) dst w ⌝ }
+    ensures { λ r. ⌜ (r ≤ largestSample * w) × (r ≡ sadRow (now (cur .entry)) src (now (reference .entry)) dst w) ⌝ }
 {
     let mut sum: u32 = 0;
     let mut x = 0;
@@ -32,82 +31,39 @@ fn sad_row(cur: &[u8], src: usize, reference: &[u8], dst: usize, w: usize) -> u3
     sum
 }
 
-// Rows of any width, one by one.
+// Row y of a block and the next one, of w samples each.
 fn sad_rows(
     cur: &[u8],
     src: usize,
     reference: &[u8],
     dst: usize,
     stride: usize,
+    y: usize,
     w: usize,
-    h: usize,
 ) -> u32
-    requires { ⌜ Inside (length (now cur)) src stride w h × Inside (length (now reference)) dst stride w h ⌝ }
-    requires { ⌜ (w ≤ largestBlock) × (h ≤ largestBlock) ⌝ }
-    ensures { λ r. ⌜ r ≡ sadBlock (now (cur .entry)) src (now (reference .entry)) dst stride w h ⌝ }
+    requires { ⌜ (src + (y * stride + stride) + w ≤ length (now cur)) × (dst + (y * stride + stride) + w ≤ length (now reference)) × (w ≤ largestBlock) ⌝ }
+    ensures { λ r. ⌜ (r ≤ largestSample * (2 * w)) × (r ≡ sadBlock (now (cur .entry)) (src + y * stride) (now (reference .entry)) (dst + y * stride) stride w 2) ⌝ }
 {
-    let mut sum: u32 = 0;
-    let mut y = 0;
-    while y < h {
-        let down = y * stride;
-        sum += sad_row(cur, src + down, reference, dst + down, w);
-        y += 1;
-    }
-    sum
+    let down = y * stride;
+    let next = down + stride;
+    let first = sad_row(cur, src + down, reference, dst + down, w);
+    let second = sad_row(cur, src + next, reference, dst + next, w);
+    first + second
 }
 
-// How the four runs of 16 samples lie that a turn takes: the second `one` after the first, and two more `two` after these.
-struct Runs {
-    one: usize,
-    two: usize,
-}
-
-// Four rows of 16 columns, or two of 32 in halves.
-fn runs_of(stride: usize, w: usize) -> Runs
-    requires { ⌜ stride ≤ largestPlace ⌝ }
-    ensures { λ r. ⌜ r ≡ runsOf stride w ⌝ }
+// The sum where it is below the limit, else the limit.
+fn at_most(limit: u64, sum: u32) -> u32
+    ensures { λ r. ⌜ r ≡ min limit sum ⌝ }
 {
-    if w == 16 {
-        Runs {
-            one: stride,
-            two: 2 * stride,
-        }
+    if limit < sum as u64 {
+        limit as u32
     } else {
-        Runs {
-            one: 16,
-            two: stride,
-        }
+        sum
     }
 }
 
-// Whether a block consists of such turns: so does one that is not cropped, 16 samples wide, or 32 if it is refined.
-fn in_runs(w: usize, h: usize) -> bool
-    ensures { λ r. ⌜ r ≡ inRuns w h ⌝ }
-{
-    if h % 4 != 0 {
-        return false;
-    }
-    if w == 16 {
-        return true;
-    }
-    w == 32
-}
-
-// Four runs in one function, so that one sum across a register serves all of them.
-fn sad_four(cur: &[u8], src: usize, reference: &[u8], dst: usize, one: usize, two: usize) -> u32
-    requires { ⌜ (src + (two + one) + 16 ≤ length (now cur)) × (dst + (two + one) + 16 ≤ length (now reference)) ⌝ }
-    ensures { λ r. ⌜ r ≡ sadBlock (now (cur .entry)) src (now (reference .entry)) dst one 16 2 + sadBlock (now (cur .entry)) (src + two) (now (reference .entry)) (dst + two) one 16 2 ⌝ }
-{
-    let three = two + one;
-    let r0 = sad_row(cur, src, reference, dst, 16);
-    let r1 = sad_row(cur, src + one, reference, dst + one, 16);
-    let r2 = sad_row(cur, src + two, reference, dst + two, 16);
-    let r3 = sad_row(cur, src + three, reference, dst + three, 16);
-    r0 + r1 + r2 + r3
-}
-
-// A block of such turns.
-fn sad_runs(
+// Samples of any width, one by one, up to the first that reaches the limit.
+fn samples_below(
     cur: &[u8],
     src: usize,
     reference: &[u8],
@@ -115,26 +71,159 @@ fn sad_runs(
     stride: usize,
     w: usize,
     h: usize,
+    limit: u64,
 ) -> u32
     requires { ⌜ Inside (length (now cur)) src stride w h × Inside (length (now reference)) dst stride w h ⌝ }
-    requires { ⌜ (inRuns w h ≡ true) × (h ≤ largestBlock) × (stride ≤ largestPlace) ⌝ }
-    ensures { λ r. ⌜ r ≡ sadBlock (now (cur .entry)) src (now (reference .entry)) dst stride w h ⌝ }
+    requires { ⌜ (w ≤ largestBlock) × (h ≤ largestBlock) ⌝ }
+    ensures { λ r. ⌜ r ≡ min limit (sadBlock (now (cur .entry)) src (now (reference .entry)) dst stride w h) ⌝ }
 {
-    let runs = runs_of(stride, w);
-    let one = runs.one;
-    let two = runs.two;
-    let turns = w * h / 64;
     let mut sum: u32 = 0;
-    let mut k = 0;
-    while k < turns {
-        let down = k * (2 * two);
-        sum += sad_four(cur, src + down, reference, dst + down, one, two);
-        k += 1;
+    let mut y = 0;
+    'rows: while y < h {
+        let down = y * stride;
+        let mut x = 0;
+        while x < w {
+            sum += abs_diff(cur[src + down + x], reference[dst + down + x]);
+            if limit <= sum as u64 {
+                break 'rows;
+            }
+            x += 1;
+        }
+        y += 1;
     }
-    sum
+    at_most(limit, sum)
 }
 
-// The sum of absolute differences of two blocks of w by h samples.
+// Rows of whole runs of 16 samples, up to the run that reaches the limit.
+fn runs_below(
+    cur: &[u8],
+    src: usize,
+    reference: &[u8],
+    dst: usize,
+    stride: usize,
+    w: usize,
+    h: usize,
+    limit: u64,
+) -> u32
+    requires { ⌜ Inside (length (now cur)) src stride w h × Inside (length (now reference)) dst stride w h ⌝ }
+    requires { ⌜ (w % 16 ≡ 0) × (w ≤ largestBlock) × (h ≤ largestBlock) ⌝ }
+    ensures { λ r. ⌜ r ≡ min limit (sadBlock (now (cur .entry)) src (now (reference .entry)) dst stride w h) ⌝ }
+{
+    let mut sum: u32 = 0;
+    let mut y = 0;
+    'rows: while y < h {
+        let down = y * stride;
+        let mut x = 0;
+        while x < w {
+            sum += sad_row(cur, src + down + x, reference, dst + down + x, 16);
+            if limit <= sum as u64 {
+                break 'rows;
+            }
+            x += 16;
+        }
+        y += 1;
+    }
+    at_most(limit, sum)
+}
+
+// A block 32 samples wide, as one is that is refined, up to the two rows that reach the limit.
+fn pairs_below(
+    cur: &[u8],
+    src: usize,
+    reference: &[u8],
+    dst: usize,
+    stride: usize,
+    h: usize,
+    limit: u64,
+) -> u32
+    requires { ⌜ Inside (length (now cur)) src stride 32 h × Inside (length (now reference)) dst stride 32 h ⌝ }
+    requires { ⌜ (h % 2 ≡ 0) × (h ≤ largestBlock) ⌝ }
+    ensures { λ r. ⌜ r ≡ min limit (sadBlock (now (cur .entry)) src (now (reference .entry)) dst stride 32 h) ⌝ }
+{
+    let mut sum: u32 = 0;
+    let mut y = 0;
+    'rows: while y < h {
+        // After the last rows at_most tests it, with no branch that is hard to foresee.
+        if limit <= sum as u64 {
+            break 'rows;
+        }
+        sum += sad_rows(cur, src, reference, dst, stride, y, 32);
+        y += 2;
+    }
+    at_most(limit, sum)
+}
+
+// A block of 16 by 16 samples, as most are, up to the four rows that reach the limit. They are written out, since a loop would
+// first work out where each of its rows starts.
+fn square_below(
+    cur: &[u8],
+    src: usize,
+    reference: &[u8],
+    dst: usize,
+    stride: usize,
+    limit: u64,
+) -> u32
+    requires { ⌜ (src + 15 * stride + 16 ≤ length (now cur)) × (dst + 15 * stride + 16 ≤ length (now reference)) ⌝ }
+    ensures { λ r. ⌜ r ≡ min limit (sadBlock (now (cur .entry)) src (now (reference .entry)) dst stride 16 16) ⌝ }
+{
+    let r0 = sad_rows(cur, src, reference, dst, stride, 0, 16);
+    let r1 = sad_rows(cur, src, reference, dst, stride, 2, 16);
+    let four = r0 + r1;
+    if limit <= four as u64 {
+        return limit as u32;
+    }
+    let r2 = sad_rows(cur, src, reference, dst, stride, 4, 16);
+    let r3 = sad_rows(cur, src, reference, dst, stride, 6, 16);
+    let eight = four + (r2 + r3);
+    if limit <= eight as u64 {
+        return limit as u32;
+    }
+    let r4 = sad_rows(cur, src, reference, dst, stride, 8, 16);
+    let r5 = sad_rows(cur, src, reference, dst, stride, 10, 16);
+    let twelve = eight + (r4 + r5);
+    if limit <= twelve as u64 {
+        return limit as u32;
+    }
+    let r6 = sad_rows(cur, src, reference, dst, stride, 12, 16);
+    let r7 = sad_rows(cur, src, reference, dst, stride, 14, 16);
+    at_most(limit, twelve + (r6 + r7))
+}
+
+// The sum of absolute differences of two blocks of w by h samples where it is below the limit, else the limit.
+pub fn get_sad_below(
+    cur: &[u8],
+    src: usize,
+    reference: &[u8],
+    dst: usize,
+    stride: usize,
+    w: usize,
+    h: usize,
+    limit: u64,
+) -> u32
+    requires { ⌜ Inside (length (now cur)) src stride w h × Inside (length (now reference)) dst stride w h ⌝ }
+    requires { ⌜ (w ≤ largestBlock) × (h ≤ largestBlock) × (stride ≤ largestPlace) ⌝ }
+    ensures { λ r. ⌜ r ≡ min limit (sadBlock (now (cur .entry)) src (now (reference .entry)) dst stride w h) ⌝ }
+{
+    if w == 16 {
+        if h == 16 {
+            return square_below(cur, src, reference, dst, stride, limit);
+        }
+    }
+    if w == 32 {
+        if h % 2 == 0 {
+            return pairs_below(cur, src, reference, dst, stride, h, limit);
+        }
+    }
+    if w % 16 == 0 {
+        return runs_below(cur, src, reference, dst, stride, w, h, limit);
+    }
+    samples_below(cur, src, reference, dst, stride, w, h, limit)
+}
+
+// No sum of a block reaches it.
+pub const NO_LIMIT: u64 = 0xffff_ffff_ffff_ffff;
+
+// The whole sum.
 pub fn get_sad(
     cur: &[u8],
     src: usize,
@@ -148,8 +237,5 @@ pub fn get_sad(
     requires { ⌜ (w ≤ largestBlock) × (h ≤ largestBlock) × (stride ≤ largestPlace) ⌝ }
     ensures { λ r. ⌜ r ≡ sadBlock (now (cur .entry)) src (now (reference .entry)) dst stride w h ⌝ }
 {
-    if in_runs(w, h) {
-        return sad_runs(cur, src, reference, dst, stride, w, h);
-    }
-    sad_rows(cur, src, reference, dst, stride, w, h)
+    get_sad_below(cur, src, reference, dst, stride, w, h, NO_LIMIT)
 }

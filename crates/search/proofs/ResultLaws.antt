@@ -31,14 +31,17 @@ each-four rd best vs = refl
 abbrev pub mostCost : ℕ
 mostCost = 2 ^ 64 - 1
 
--- a candidate that costs the most changes nothing
-pub one-most : (rd : CostOf) (best : MotionSearchResult) (v : MotionVector) → rd v ≡ emptyRd → best .rd .cost ≤ mostCost → tryOne rd best v ≡ best
-unfolding tryOne cheaper emptyRd
-one-most rd best v e h =
-    ap (λ (t : Bool). cond t (record { mv = v; rd = rd v }) best) (le-ltb (rd v .cost) (best .rd .cost) (omega (arith, ap (λ (r : MVCandidateRD). r .cost) e)))
+-- a record that is no cheaper changes nothing
+pub not-cheaper : (best other : MotionSearchResult) → best .rd .cost ≤ other .rd .cost → cheaper best other ≡ best
+unfolding cheaper
+not-cheaper best other h = rw (le-ltb (other .rd .cost) (best .rd .cost) h)
 
 -- a candidate is taken exactly where the record gets cheaper by it
 module _ (rd : CostOf) (best : MotionSearchResult) (v : MotionVector) where
+  pub one-lost : best .rd .cost ≤ rd v .cost → tryOne rd best v ≡ best
+  unfolding tryOne
+  one-lost h = not-cheaper best (measured rd v) h
+
   taken-by : (t : Bool) → ltb (rd v .cost) (best .rd .cost) ≡ t → cond t (measured rd v) best .rd .cost < best .rd .cost → (cond t (measured rd v) best ≡ measured rd v) × (rd v .cost < best .rd .cost)
   taken-by true e h = (refl, h)
   taken-by false e h = absurd (omega arith)
@@ -54,6 +57,11 @@ module _ (rd : CostOf) (best : MotionSearchResult) (v : MotionVector) where
   pub one-left : best .rd .cost ≤ tryOne rd best v .rd .cost → best .rd .cost ≤ rd v .cost
   unfolding tryOne cheaper
   one-left h = left-by (ltb (rd v .cost) (best .rd .cost)) refl h
+
+-- a candidate that costs the most changes nothing
+pub one-most : (rd : CostOf) (best : MotionSearchResult) (v : MotionVector) → rd v ≡ emptyRd → best .rd .cost ≤ mostCost → tryOne rd best v ≡ best
+unfolding emptyRd
+one-most rd best v e h = one-lost rd best v (omega (arith, ap (λ (r : MVCandidateRD). r .cost) e))
 
 -- What holds of the record of every vector that costs less than the most, holds of every record that is cheaper than a record
 -- of cost at most the most.

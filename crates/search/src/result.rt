@@ -6,9 +6,10 @@ use points::patterns::pattern_points;
 use sad::plane::org_start;
 use sad::plane::ref_start;
 use sad::rd::MVCandidateRD;
-use sad::rd::compute_mv_rd;
 use sad::rd::get_fullpel_mv_rd;
-use sad::sad::get_sad;
+use sad::rd::rate_part;
+use sad::rd::sad_limit;
+use sad::sad::get_sad_below;
 ghost use mathlib.Core.Path.{_≡_};
 ghost use lib.ListN.{length};
 ghost use Rattle.motion.specs.Asked.{Near};
@@ -71,10 +72,19 @@ impl MotionSearchResult {
         if !b.range.holds(cand_mv) {
             return self;
         }
+        let rate = rate_part(b.weight, cand_mv);
+        let limit = sad_limit(self.rd.cost, rate);
+        if limit == 0 {
+            return self;
+        }
         let src = org_start(b);
         let dst = ref_start(b, cand_mv);
-        let sad = get_sad(cur, src, reference, dst, b.stride, b.w, b.h);
-        let rd = compute_mv_rd(b.weight, sad, cand_mv);
+        let sad = get_sad_below(cur, src, reference, dst, b.stride, b.w, b.h, limit);
+        // With the limit for its sum it is no cheaper.
+        let rd = MVCandidateRD {
+            cost: 256 * sad as u64 + rate,
+            sad,
+        };
         self.move_to(MotionSearchResult { mv: cand_mv, rd })
     }
 }

@@ -49,7 +49,7 @@ returns-2 c =
     let starts = c .before .before in
     let a = starts .before .before .before .before .before .before .args in
     let held = in-range (starts .before .before) in
-    let sad = sad-from (a .b) (a .cand-mv) held _ _ (starts .before .org-start .ensures) (starts .ref-start .ensures) (now (a .cur)) (now (a .reference)) (c .before .get-sad .ensures) in
+    let sad = c .before .get-sad .ensures ∙ sad-from (a .b) (a .cand-mv) held _ _ (starts .before .org-start .ensures) (starts .ref-start .ensures) (now (a .cur)) (now (a .reference)) in
     c .compute-mv-rd .ensures ∙ ap (λ (s : ℕ). rdOf (a .b .weight) s (a .cand-mv)) sad
     ∙ sym (rd-in (a .b) (now (a .cur)) (now (a .reference)) (a .cand-mv) held)
 

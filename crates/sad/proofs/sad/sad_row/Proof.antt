@@ -68,7 +68,7 @@ returns : tie.Need-returns Inv-loop μ-loop
 returns c =
     let a = c .before .before .before .before .args in
     let done : c .before .loop .x ≡ a .w = omega arith in
-    rw (← done) (c .before .loop .inv .2)
+    (omega arith, rw (← done) (c .before .loop .inv .2))
 
 pub sad-row-spec : {M : Type 1} → statement M
 sad-row-spec =

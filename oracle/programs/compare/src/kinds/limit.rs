@@ -1,6 +1,6 @@
 //! Searches in which the sum of a candidate lies at the limit of the best so far, one
 //! below it or one above it: samples of its reference block that the best's has not are
-//! set until it does.
+//! set until it does. With some weights the rate alone reaches the cost.
 
 use cases::{CONTENTS, Frame, Random, SEEDS, WEIGHTS, searched_block};
 use lockdapple_sys as sys;
@@ -169,14 +169,17 @@ impl Kind for Limit {
         };
         let start = sys::Vector { row: 0, col: 0 };
         let proved = (compared.proved)(block, cur, reference, start, weight);
+        let mut seen = Vec::new();
+        if near {
+            seen.push(("sum", words));
+        }
+        if cost <= rate {
+            seen.push(("rate", "alone reaches the cost"));
+        }
         Some(Outcome {
             content: Some(content),
             block: Some(at),
-            seen: if near {
-                vec![("sum", words)]
-            } else {
-                Vec::new()
-            },
+            seen,
             ..Outcome::new(answers::found(0, Some(found), proved), 0)
         })
     }
