@@ -1,7 +1,5 @@
 -- What a block, a step and a level work with besides the grid.
 use Rattle.std.specs.Prelude.{cond, List, ℕ, eqb}
-use Rattle.std.specs.Borrow.{Bor}
-use denote.Triple.Both.{Both}
 use Rattle.grid.specs.Grid.{Grid}
 use Rattle.grid.specs.Previous.{Previous, previous_of}
 use Rattle.estimate.specs.declared.step.Frame.{Frame}
@@ -34,13 +32,6 @@ pub record Planes : Type 0 where
 
 abbrev pub planes_of : List ℕ → List ℕ → List ℕ → Planes
 planes_of full half quarter = record { full = full; half = half; quarter = quarter }
-
--- what three lent planes hold, and the same at the call
-abbrev pub lent_planes : Bor (List ℕ) → Bor (List ℕ) → Bor (List ℕ) → Planes
-lent_planes full half quarter = planes_of full.now half.now quarter.now
-
-abbrev pub entry_planes : {A B C : Type 0} → Both (Bor (List ℕ)) A → Both (Bor (List ℕ)) B → Both (Bor (List ℕ)) C → Planes
-entry_planes full half quarter = lent_planes full.entry half.entry quarter.entry
 
 -- the plane of a level
 unfoldable pub plane_at : Planes → ℕ → List ℕ

@@ -4,8 +4,7 @@ ghost use Rattle.motion.specs.Vector.{zero_v, FitsV, shl_v};
 ghost use Rattle.motion.specs.Range.{in_range};
 ghost use Rattle.motion.specs.Level.{level_of};
 ghost use Rattle.motion.specs.Frame.{Side, Starts};
-ghost use Rattle.grid.specs.Grid.{Held, cells, cell_at};
-ghost use Rattle.grid.specs.Lent.{lent_grid, entry_grid};
+ghost use Rattle.grid.specs.Grid.{grid_of, Held, cells, cell_at};
 ghost use Rattle.grid.specs.Previous.{HeldIf};
 ghost use Rattle.sad.specs.Asked.{Lies};
 ghost use Rattle.sad.specs.Cost.{rd_at};
@@ -181,10 +180,10 @@ pub fn estimate_motion(
     sads: &[u32],
 ) -> MEStats
     requires ready { Ready (inputs_in s.frame s.level cur.now reference.now) }
-    requires held_if { HeldIf s.frame.width s.frame.height (previous_in s.frame (lent_grid prev_rows prev_cols prev_sads)) }
+    requires held_if { HeldIf s.frame.width s.frame.height (previous_in s.frame (grid_of prev_rows.now prev_cols.now prev_sads.now)) }
     requires starts { Starts s.frame.width (level_of s.level).mv_size bx × Starts s.frame.height (level_of s.level).mv_size by }
-    requires held { Held s.frame.width s.frame.height (lent_grid rows cols sads) }
-    ensures { result ≡ estimate_motion (inputs_in s.frame s.level cur.now reference.now) (previous_in s.frame (entry_grid prev_rows prev_cols prev_sads)) bx by (entry_grid rows cols sads) }
+    requires held { Held s.frame.width s.frame.height (grid_of rows.now cols.now sads.now) }
+    ensures { result ≡ estimate_motion (inputs_in s.frame s.level cur.now reference.now) (previous_in s.frame (grid_of prev_rows.now prev_cols.now prev_sads.now)) bx by (grid_of rows.now cols.now sads.now) }
 {
     let width = s.frame.width;
     let height = s.frame.height;

@@ -1,5 +1,5 @@
 // What a run works with besides its planes and grids.
-#[derive(Drop)]
+#[derive(Clone, Copy)]
 pub struct Frame {
     pub width: usize,
     pub height: usize,
@@ -8,7 +8,7 @@ pub struct Frame {
 }
 
 // What a step works with besides its planes and grids.
-#[derive(Drop)]
+#[derive(Clone, Copy)]
 pub struct Step {
     pub frame: Frame,
     pub level: usize,

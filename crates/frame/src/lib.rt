@@ -1,2 +1,4 @@
 // A frame run: superblock steps over a list.
+#![tactic(auto)]
+
 pub mod run;

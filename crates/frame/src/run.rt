@@ -1,10 +1,9 @@
 ghost use Rattle.std.specs.Prelude.{◌≡◌, ℕ, ◌<◌, length, get_or};
 ghost use Rattle.motion.specs.Frame.{Side};
 ghost use Rattle.motion.specs.Superblock.{superblocks};
-ghost use Rattle.grid.specs.Grid.{Held};
-ghost use Rattle.grid.specs.Lent.{lent_grid, entry_grid, exit_grid};
+ghost use Rattle.grid.specs.Grid.{grid_of, Held};
 ghost use Rattle.grid.specs.Previous.{HeldIf};
-ghost use Rattle.estimate.specs.Inputs.{inputs_in, previous_in, entry_planes};
+ghost use Rattle.estimate.specs.Inputs.{inputs_in, previous_in, planes_of};
 ghost use Rattle.estimate.specs.Asked.{Ready, PlaneHeld};
 ghost use Rattle.frame.specs.Run.{level_run, frame_run};
 
@@ -26,10 +25,10 @@ fn level_run(
     sads: &mut [u32],
 )
     requires ready { Ready (inputs_in frame level cur.now reference.now) }
-    requires held_if { HeldIf frame.width frame.height (previous_in frame (lent_grid prev_rows prev_cols prev_sads)) }
-    requires held { Held frame.width frame.height (lent_grid rows cols sads) }
+    requires held_if { HeldIf frame.width frame.height (previous_in frame (grid_of prev_rows.now prev_cols.now prev_sads.now)) }
+    requires held { Held frame.width frame.height (grid_of rows.old cols.old sads.old) }
     requires by_index { (k : ℕ) → k < length list.now → get_or list.now k 0 < superblocks frame.width frame.height }
-    ensures { exit_grid rows cols sads ≡ level_run (inputs_in frame level cur.now reference.now) (previous_in frame (entry_grid prev_rows prev_cols prev_sads)) list.now (entry_grid rows cols sads) }
+    ensures { grid_of rows.new cols.new sads.new ≡ level_run (inputs_in frame level cur.now reference.now) (previous_in frame (grid_of prev_rows.now prev_cols.now prev_sads.now)) list.now (grid_of rows.old cols.old sads.old) }
 {
     let mut k = 0;
     while k < list.len() {
@@ -65,10 +64,10 @@ pub fn frame_run(
 )
     requires side { Side frame.width × Side frame.height × PlaneHeld frame.width frame.height 2 cur.now × PlaneHeld frame.width frame.height 3 cur_half.now × PlaneHeld frame.width frame.height 4 cur_quarter.now }
     requires plane_held { PlaneHeld frame.width frame.height 2 reference.now × PlaneHeld frame.width frame.height 3 ref_half.now × PlaneHeld frame.width frame.height 4 ref_quarter.now }
-    requires held_if { HeldIf frame.width frame.height (previous_in frame (lent_grid prev_rows prev_cols prev_sads)) }
-    requires held { Held frame.width frame.height (lent_grid rows cols sads) }
+    requires held_if { HeldIf frame.width frame.height (previous_in frame (grid_of prev_rows.now prev_cols.now prev_sads.now)) }
+    requires held { Held frame.width frame.height (grid_of rows.old cols.old sads.old) }
     requires by_index { (k : ℕ) → k < length list.now → get_or list.now k 0 < superblocks frame.width frame.height }
-    ensures { exit_grid rows cols sads ≡ frame_run frame.width frame.height (entry_planes cur cur_half cur_quarter) (entry_planes reference ref_half ref_quarter) frame.weight (previous_in frame (entry_grid prev_rows prev_cols prev_sads)) list.now (entry_grid rows cols sads) }
+    ensures { grid_of rows.new cols.new sads.new ≡ frame_run frame.width frame.height (planes_of cur.now cur_half.now cur_quarter.now) (planes_of reference.now ref_half.now ref_quarter.now) frame.weight (previous_in frame (grid_of prev_rows.now prev_cols.now prev_sads.now)) list.now (grid_of rows.old cols.old sads.old) }
 {
     level_run(
         frame,

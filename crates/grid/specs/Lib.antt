@@ -2,4 +2,3 @@
 pub mod Grid
 pub mod Previous
 pub mod Save
-pub mod Lent

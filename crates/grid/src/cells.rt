@@ -1,13 +1,12 @@
 ghost use Rattle.std.specs.Prelude.{◌≡◌, ◌≤◌, ◌<◌, min, length};
 ghost use Rattle.motion.specs.Limits.{largest_side};
-ghost use Rattle.grid.specs.Grid.{cell_at, stored_at, stats_at, with_cell};
-ghost use Rattle.grid.specs.Lent.{entry_grid, exit_grid};
+ghost use Rattle.grid.specs.Grid.{grid_of, cell_at, stored_at, stats_at, with_cell};
 
 use motion::limits::CELL_SIDE;
 use motion::vector::MotionVector;
 
 // What a cell of the grid holds.
-#[derive(Drop)]
+#[derive(Clone, Copy)]
 pub struct MEStats {
     pub mv: MotionVector,
     pub normalized_sad: u32,
@@ -35,7 +34,7 @@ pub fn stored_at(rows: &[i16], cols: &[i16], i: usize) -> MotionVector
 // All that a cell holds.
 pub fn stats_at(rows: &[i16], cols: &[i16], sads: &[u32], i: usize) -> MEStats
     requires { (i < length rows.now) × (i < length cols.now) × (i < length sads.now) }
-    ensures { result ≡ stats_at (entry_grid rows cols sads) i }
+    ensures { result ≡ stats_at (grid_of rows.now cols.now sads.now) i }
 {
     let mv = stored_at(rows, cols, i);
     MEStats {
@@ -47,7 +46,7 @@ pub fn stats_at(rows: &[i16], cols: &[i16], sads: &[u32], i: usize) -> MEStats
 // One result in one cell.
 pub fn save_cell(i: usize, stats: MEStats, rows: &mut [i16], cols: &mut [i16], sads: &mut [u32])
     requires { (i < length rows.old) × (i < length cols.old) × (i < length sads.old) }
-    ensures { exit_grid rows cols sads ≡ with_cell i stats (entry_grid rows cols sads) }
+    ensures { grid_of rows.new cols.new sads.new ≡ with_cell i stats (grid_of rows.old cols.old sads.old) }
 {
     let row = stats.mv.row;
     let col = stats.mv.col;

@@ -1,3 +1,5 @@
 // The cells of a grid, and a result saved over those of a block.
+#![tactic(auto)]
+
 pub mod cells;
 pub mod save;

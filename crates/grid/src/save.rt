@@ -1,7 +1,6 @@
 ghost use Rattle.std.specs.Prelude.{◌≡◌, ◌+◌, ◌/◌, ◌≤◌, ◌<◌, min, length, set};
 ghost use Rattle.motion.specs.Limits.{largest_side, cell_side};
-ghost use Rattle.grid.specs.Grid.{Held};
-ghost use Rattle.grid.specs.Lent.{lent_grid, entry_grid, exit_grid};
+ghost use Rattle.grid.specs.Grid.{grid_of, Held};
 ghost use Rattle.grid.specs.Save.{up_to, save_where, save_block};
 
 use crate::cells::{MEStats, cell_at, save_cell};
@@ -39,7 +38,7 @@ fn save_rest(
 )
     requires from_le_to { («from» ≤ to) × (to ≤ «from» + 3) }
     requires to_in_bounds { (to ≤ length rows.old) × (to ≤ length cols.old) × (to ≤ length sads.old) }
-    ensures { exit_grid rows cols sads ≡ save_where (up_to «from» to) stats (entry_grid rows cols sads) }
+    ensures { grid_of rows.new cols.new sads.new ≡ save_where (up_to «from» to) stats (grid_of rows.old cols.old sads.old) }
 {
     if from == to {
         return;
@@ -65,7 +64,7 @@ fn save_row(
     sads: &mut [u32],
 )
     requires { («from» ≤ to) × (to ≤ length rows.old) × (to ≤ length cols.old) × (to ≤ length sads.old) }
-    ensures { exit_grid rows cols sads ≡ save_where (up_to «from» to) stats (entry_grid rows cols sads) }
+    ensures { grid_of rows.new cols.new sads.new ≡ save_where (up_to «from» to) stats (grid_of rows.old cols.old sads.old) }
 {
     let mut i = from;
     while 4 <= to - i {
@@ -100,8 +99,8 @@ pub fn save_me_stats(
     sads: &mut [u32],
 )
     requires width_le_largest_side { (width ≤ largest_side) × (height ≤ largest_side) × (mv_size ≤ largest_side) × (bx < width / cell_side) × (by < height / cell_side) }
-    requires held { Held width height (lent_grid rows cols sads) }
-    ensures { exit_grid rows cols sads ≡ save_block width height mv_size bx by stats (entry_grid rows cols sads) }
+    requires held { Held width height (grid_of rows.old cols.old sads.old) }
+    ensures { grid_of rows.new cols.new sads.new ≡ save_block width height mv_size bx by stats (grid_of rows.old cols.old sads.old) }
 {
     let x_end = block_end(width, mv_size, bx);
     let y_end = block_end(height, mv_size, by);

@@ -1,4 +1,6 @@
 // Vectors, their rate, the range of a block, levels and the geometry of blocks and superblocks.
+#![tactic(auto)]
+
 pub mod block;
 pub mod level;
 pub mod limits;

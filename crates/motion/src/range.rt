@@ -7,7 +7,7 @@ use crate::limits::VECTOR_LIMIT;
 use crate::vector::MotionVector;
 
 // The vectors that a block may take, both ends included.
-#[derive(Drop)]
+#[derive(Clone, Copy)]
 pub struct MvRange {
     pub mvx_min: i16,
     pub mvx_max: i16,

@@ -8,14 +8,14 @@ use motion::range::MvRange;
 use motion::vector::MotionVector;
 
 // So many whole pixels of one axis, from the first.
-#[derive(Drop)]
+#[derive(Clone, Copy)]
 pub struct Span {
     pub lo: i16,
     pub count: usize,
 }
 
 // The offsets that a full search tries.
-#[derive(Drop)]
+#[derive(Clone, Copy)]
 pub struct Window {
     pub rows: Span,
     pub cols: Span,

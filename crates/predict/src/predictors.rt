@@ -2,8 +2,7 @@ ghost use Rattle.std.specs.Prelude.{◌≡◌, true, ℕ, ◌≤◌, ◌<◌, �
 ghost use Rattle.motion.specs.Vector.{zero_v};
 ghost use Rattle.motion.specs.Level.{level_of};
 ghost use Rattle.motion.specs.Frame.{Placed};
-ghost use Rattle.grid.specs.Grid.{Held};
-ghost use Rattle.grid.specs.Lent.{lent_grid, entry_grid};
+ghost use Rattle.grid.specs.Grid.{grid_of, Held};
 ghost use Rattle.sampled.specs.Slots.{slots};
 ghost use Rattle.sampled.specs.Sampled.{taken};
 ghost use Rattle.predict.specs.Predictors.{clamp_to, predictor, predictors_at, sads_at, least_of, minimum_sad, stop_threshold, subset_of, subsets_of};
@@ -16,7 +15,7 @@ use motion::vector::MotionVector;
 use sampled::cells::{Cells, cells_b, cells_c, centre_cell};
 
 // The predictors that some cells give, at most five, and the least SAD among the cells.
-#[derive(Drop)]
+#[derive(Clone, Copy)]
 pub struct Subset {
     pub count: usize,
     pub mvs: [MotionVector; 5],
@@ -24,7 +23,7 @@ pub struct Subset {
 }
 
 // The predictors of a block. Slots past a count hold the zero vector; at level 4 the centre is the zero vector.
-#[derive(Drop)]
+#[derive(Clone, Copy)]
 pub struct MotionEstimationSubsets {
     pub min_sad: u32,
     pub threshold: u32,
@@ -72,7 +71,7 @@ fn subset_of(
 ) -> Subset
     requires ssdec_bound { (ssdec < 16) × (cells.count ≤ slots) × (length cells.at ≡ slots) }
     requires by_index { (k : ℕ) → k < cells.count → (get_or cells.at k 0 < length rows.now) × (get_or cells.at k 0 < length cols.now) × (get_or cells.at k 0 < length sads.now) }
-    ensures { result ≡ subset_of range ssdec (entry_grid rows cols sads) (take cells.count cells.at) }
+    ensures { result ≡ subset_of range ssdec (grid_of rows.now cols.now sads.now) (take cells.count cells.at) }
 {
     let n = cells.count;
     let at = cells.at;
@@ -103,7 +102,7 @@ fn centre_of(
     sads: &[u32],
 ) -> MEStats
     requires { (ssdec < 16) × (i < length rows.now) × (i < length cols.now) × (i < length sads.now) }
-    ensures { (result.mv ≡ get_or (predictors_at range ssdec (entry_grid rows cols sads) (taken asked i)) 0 zero_v) × (result.normalized_sad ≡ least_of (sads_at (entry_grid rows cols sads) (taken asked i))) }
+    ensures { (result.mv ≡ get_or (predictors_at range ssdec (grid_of rows.now cols.now sads.now) (taken asked i)) 0 zero_v) × (result.normalized_sad ≡ least_of (sads_at (grid_of rows.now cols.now sads.now) (taken asked i))) }
 {
     if !asked {
         return MEStats {
@@ -150,9 +149,9 @@ pub fn get_subset_predictors(
     sads: &[u32],
 ) -> MotionEstimationSubsets
     requires placed { Placed width height (level_of level) (level_of level).mv_size bx by }
-    requires held { present ≡ true → Held width height (lent_grid prev_rows prev_cols prev_sads) }
-    requires held_2 { Held width height (lent_grid rows cols sads) }
-    ensures { result ≡ subsets_of width height level bx by present (entry_grid prev_rows prev_cols prev_sads) (entry_grid rows cols sads) }
+    requires held { present ≡ true → Held width height (grid_of prev_rows.now prev_cols.now prev_sads.now) }
+    requires held_2 { Held width height (grid_of rows.now cols.now sads.now) }
+    ensures { result ≡ subsets_of width height level bx by present (grid_of prev_rows.now prev_cols.now prev_sads.now) (grid_of rows.now cols.now sads.now) }
 {
     let row = level_of(level);
     let ssdec = row.ssdec;

@@ -1,2 +1,4 @@
 // The tests behind the refusals: sides, level, block start, planes and grid.
+#![tactic(auto)]
+
 pub mod refusals;

@@ -1,4 +1,6 @@
 // Where a sample lies, the sum of absolute differences of two blocks, and the cost of a candidate.
+#![tactic(auto)]
+
 pub mod plane;
 pub mod rd;
 pub mod sad;

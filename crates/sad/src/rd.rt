@@ -10,7 +10,7 @@ use motion::rate::get_mv_rate;
 use motion::vector::MotionVector;
 
 // The cost of a candidate, with its sum of absolute differences.
-#[derive(Drop)]
+#[derive(Clone, Copy)]
 pub struct MVCandidateRD {
     pub cost: u64,
     pub sad: u32,

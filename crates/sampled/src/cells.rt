@@ -11,7 +11,7 @@ use motion::level::level_of;
 use motion::limits::{CELL_SIDE, SB_SIZE};
 
 // Cells by their numbers, at most five; slots past the count hold 0.
-#[derive(Drop)]
+#[derive(Clone, Copy)]
 pub struct Cells {
     pub count: usize,
     pub at: [usize; 5],

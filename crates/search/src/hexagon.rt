@@ -11,7 +11,7 @@ use motion::vector::MotionVector;
 use points::patterns::{Pattern, hexagon_point};
 
 // The cheapest point so far of one round, with its index in the hexagon.
-#[derive(Drop)]
+#[derive(Clone, Copy)]
 pub struct HexCand {
     pub idx: usize,
     pub best: MotionSearchResult,

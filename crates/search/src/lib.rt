@@ -1,4 +1,6 @@
 // The searches: the record of the best so far, diamond, hexagon, uneven multi-hexagon and full search.
+#![tactic(auto)]
+
 pub mod diamond;
 pub mod full;
 pub mod hexagon;

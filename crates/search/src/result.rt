@@ -13,7 +13,7 @@ use sad::rd::{MVCandidateRD, get_fullpel_mv_rd, rate_part, sad_limit};
 use sad::sad::get_sad_below;
 
 // The best vector so far, with its cost and sum of absolute differences.
-#[derive(Drop)]
+#[derive(Clone, Copy)]
 pub struct MotionSearchResult {
     pub mv: MotionVector,
     pub rd: MVCandidateRD,

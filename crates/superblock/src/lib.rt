@@ -1,2 +1,4 @@
 // A superblock step.
+#![tactic(auto)]
+
 pub mod step;

@@ -2,8 +2,7 @@ ghost use Rattle.std.specs.Prelude.{◌≡◌, true, ◌*◌, ◌≤◌, ◌<◌
 ghost use Rattle.motion.specs.Frame.{Side};
 ghost use Rattle.motion.specs.Limits.{largest_side, cell_side, superblock_side};
 ghost use Rattle.motion.specs.Superblock.{superblocks};
-ghost use Rattle.grid.specs.Grid.{Held, cells};
-ghost use Rattle.grid.specs.Lent.{lent_grid, entry_grid, exit_grid};
+ghost use Rattle.grid.specs.Grid.{grid_of, Held, cells};
 ghost use Rattle.grid.specs.Previous.{HeldIf};
 ghost use Rattle.estimate.specs.Inputs.{inputs_in, previous_in};
 ghost use Rattle.estimate.specs.Asked.{Ready, Leveled};
@@ -96,9 +95,9 @@ fn refine_sb_motion(
     sads: &mut [u32],
 )
     requires ready { Ready (inputs_in s.frame s.level cur.now reference.now) × (s.superblock < superblocks s.frame.width s.frame.height) }
-    requires held { Held s.frame.width s.frame.height (lent_grid rows cols sads) }
+    requires held { Held s.frame.width s.frame.height (grid_of rows.old cols.old sads.old) }
     requires cols_value { windows_ok s.frame.width s.frame.height s.level s.superblock rows.old cols.old ≡ true }
-    ensures { exit_grid rows cols sads ≡ refinements (inputs_in s.frame s.level cur.now reference.now) s.superblock (entry_grid rows cols sads) }
+    ensures { grid_of rows.new cols.new sads.new ≡ refinements (inputs_in s.frame s.level cur.now reference.now) s.superblock (grid_of rows.old cols.old sads.old) }
 {
     let width = s.frame.width;
     let height = s.frame.height;
@@ -128,9 +127,9 @@ fn estimate_sb_motion(
     sads: &mut [u32],
 )
     requires ready { Ready (inputs_in s.frame s.level cur.now reference.now) × (s.superblock < superblocks s.frame.width s.frame.height) }
-    requires held_if { HeldIf s.frame.width s.frame.height (previous_in s.frame (lent_grid prev_rows prev_cols prev_sads)) }
-    requires held { Held s.frame.width s.frame.height (lent_grid rows cols sads) }
-    ensures { exit_grid rows cols sads ≡ estimates (inputs_in s.frame s.level cur.now reference.now) (previous_in s.frame (entry_grid prev_rows prev_cols prev_sads)) s.superblock (entry_grid rows cols sads) }
+    requires held_if { HeldIf s.frame.width s.frame.height (previous_in s.frame (grid_of prev_rows.now prev_cols.now prev_sads.now)) }
+    requires held { Held s.frame.width s.frame.height (grid_of rows.old cols.old sads.old) }
+    ensures { grid_of rows.new cols.new sads.new ≡ estimates (inputs_in s.frame s.level cur.now reference.now) (previous_in s.frame (grid_of prev_rows.now prev_cols.now prev_sads.now)) s.superblock (grid_of rows.old cols.old sads.old) }
 {
     let width = s.frame.width;
     let height = s.frame.height;
@@ -162,10 +161,10 @@ pub fn superblock_step(
     sads: &mut [u32],
 ) -> bool
     requires ready { Ready (inputs_in s.frame s.level cur.now reference.now) × (s.superblock < superblocks s.frame.width s.frame.height) }
-    requires held_if { HeldIf s.frame.width s.frame.height (previous_in s.frame (lent_grid prev_rows prev_cols prev_sads)) }
-    requires held { Held s.frame.width s.frame.height (lent_grid rows cols sads) }
+    requires held_if { HeldIf s.frame.width s.frame.height (previous_in s.frame (grid_of prev_rows.now prev_cols.now prev_sads.now)) }
+    requires held { Held s.frame.width s.frame.height (grid_of rows.old cols.old sads.old) }
     ensures value { result ≡ windows_ok s.frame.width s.frame.height s.level s.superblock rows.old cols.old }
-    ensures sads_value { exit_grid rows cols sads ≡ step (inputs_in s.frame s.level cur.now reference.now) (previous_in s.frame (entry_grid prev_rows prev_cols prev_sads)) s.superblock (entry_grid rows cols sads) }
+    ensures sads_value { grid_of rows.new cols.new sads.new ≡ step (inputs_in s.frame s.level cur.now reference.now) (previous_in s.frame (grid_of prev_rows.now prev_cols.now prev_sads.now)) s.superblock (grid_of rows.old cols.old sads.old) }
 {
     if !windows_ok(s, &*rows, &*cols) {
         return false;

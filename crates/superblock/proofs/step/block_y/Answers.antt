@@ -1,0 +1,42 @@
+-- `superblock::step::block_y` meets its contract.
+use mathlib.Core.Path.{◌≡◌, ap, ap₂, ◌∙◌}
+use Prim.Native.Nat.{ℕ, ◌+◌, ◌*◌, ◌/◌, ◌≤◌}
+use native.Mathlib.Nat.{mul-le-mul, div-le_self}
+use native.Mathlib.Omega.{arith}
+use Rattle.motion.specs.Superblock.{superblock_x}
+use Rattle.superblock.specs.Step.{blocks_along, block_y}
+use Rattle.superblock.proofs.GeometryLaws.{column_begins, row-most, along_some}
+use Rattle.superblock.proofs.step.block_y.Goals.{After-blocks_along-across, After-superblock_y}
+use Rattle.superblock.proofs.step.block_y.Goals as goal
+
+-- how many blocks there are across
+across-is : (c : After-blocks_along-across) → c.blocks_along-across.result ≡ blocks_along c.args.width c.args.mv_size (superblock_x c.args.width c.args.superblock)
+across-is c =
+    let a = c.args in
+    c.blocks_along-across.ensures ∙ ap (λ (b : ℕ). blocks_along a.width a.mv_size b) c.superblock_x.ensures
+
+-- a superblock and a block count few rows
+down-most : (c : After-superblock_y) → c.args.mv_size / 4 * (c.args.k / c.blocks_along-across.result) ≤ 16 * 1024
+down-most c =
+    let a = c.args in
+    mul-le-mul {n₁ = a.mv_size / 4} {m₁ = a.k / c.blocks_along-across.result} {n₂ = 16} {m₂ = 1024}
+    (omega (arith, c.requires.3)) (omega (arith, c.requires.4, div-le_self a.k c.blocks_along-across.result))
+
+pub blocks_along-across-requires : goal.blocks_along-across-requires
+blocks_along-across-requires c =
+    let pre = c.requires in
+    (c.requires.0.most, omega (arith, (column_begins c.requires.0 c.args.superblock).inside, c.superblock_x.ensures), c.requires.2, c.requires.3)
+
+pub nonzero_div-result-2 : goal.nonzero_div-result-2
+nonzero_div-result-2 c =
+    omega (arith, across-is (goal.at.nonzero_div-result-2 c).After-blocks_along-across, along_some (column_begins c.requires.0 c.args.superblock) c.requires.2)
+
+pub overflow_add-result : goal.overflow_add-result
+overflow_add-result c =
+    omega (arith, down-most c, c.superblock_y.ensures, row-most c.args.width c.args.superblock, c.requires.1)
+
+pub returns : goal.returns
+unfolding block_y
+returns c =
+    let a = c.args in
+    ap₂ (λ (y n : ℕ). y + a.mv_size / 4 * (a.k / n)) c.superblock_y.ensures (across-is (goal.at.returns c).After-blocks_along-across)
