@@ -1,5 +1,5 @@
 ghost use Rattle.std.specs.Prelude.{◌≡◌};
-ghost use Rattle.grid.specs.Lent.{entry_grid};
+ghost use Rattle.grid.specs.Grid.{grid_of};
 ghost use Rattle.compare.specs.Answer.{compare_refusal, compare_answer, next_answer};
 
 use crate::cells::{count_differing, next_differing};
@@ -8,7 +8,7 @@ use gridfile::read::Shape;
 
 // A number of document 02, how many places differ from a cell on, and the first of them.
 #[repr(C)]
-#[derive(Drop)]
+#[derive(Clone, Copy)]
 pub struct Comparison {
     pub code: u32,
     pub count: u64,
@@ -17,7 +17,7 @@ pub struct Comparison {
 
 // A number of document 02, and the first place that differs from a cell on.
 #[repr(C)]
-#[derive(Drop)]
+#[derive(Clone, Copy)]
 pub struct Place {
     pub code: u32,
     pub place: u64,
@@ -49,8 +49,7 @@ pub fn compare_refusal(first: Shape, first_room: usize, second: Shape, second_ro
     0
 }
 
-#[unsafe(no_mangle)]
-pub extern "C" fn lockdapple_grids_compare(
+pub fn lockdapple_grids_compare(
     first: Shape,
     first_rows: &[i16],
     first_cols: &[i16],
@@ -61,7 +60,7 @@ pub extern "C" fn lockdapple_grids_compare(
     second_sads: &[u32],
     from: usize,
 ) -> Comparison
-    ensures { result ≡ compare_answer first (entry_grid first_rows first_cols first_sads) second (entry_grid second_rows second_cols second_sads) from }
+    ensures { result ≡ compare_answer first (grid_of first_rows.now first_cols.now first_sads.now) second (grid_of second_rows.now second_cols.now second_sads.now) from }
 {
     let first_room = room(first_rows.len(), first_cols.len(), first_sads.len());
     let second_room = room(second_rows.len(), second_cols.len(), second_sads.len());
@@ -103,8 +102,7 @@ pub extern "C" fn lockdapple_grids_compare(
 }
 
 // Goes through the places one by one: a call behind each place sees no cell twice.
-#[unsafe(no_mangle)]
-pub extern "C" fn lockdapple_grids_next(
+pub fn lockdapple_grids_next(
     first: Shape,
     first_rows: &[i16],
     first_cols: &[i16],
@@ -115,7 +113,7 @@ pub extern "C" fn lockdapple_grids_next(
     second_sads: &[u32],
     from: usize,
 ) -> Place
-    ensures { result ≡ next_answer first (entry_grid first_rows first_cols first_sads) second (entry_grid second_rows second_cols second_sads) from }
+    ensures { result ≡ next_answer first (grid_of first_rows.now first_cols.now first_sads.now) second (grid_of second_rows.now second_cols.now second_sads.now) from }
 {
     let first_room = room(first_rows.len(), first_cols.len(), first_sads.len());
     let second_room = room(second_rows.len(), second_cols.len(), second_sads.len());

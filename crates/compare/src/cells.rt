@@ -1,5 +1,5 @@
 ghost use Rattle.std.specs.Prelude.{◌≡◌, ◌≤◌, ◌<◌, length, get_or};
-ghost use Rattle.grid.specs.Lent.{entry_grid};
+ghost use Rattle.grid.specs.Grid.{grid_of};
 ghost use Rattle.compare.specs.Differ.{same_cell, differs_at, differing};
 
 use grid::cells::{MEStats, stats_at};
@@ -23,7 +23,7 @@ pub(crate) fn differs_at(
 ) -> bool
     requires i_in_bounds { (i < length first_rows.now) × (i < length first_cols.now) × (i < length first_sads.now) }
     requires i_in_bounds_2 { (i < length second_rows.now) × (i < length second_cols.now) × (i < length second_sads.now) }
-    ensures { result ≡ differs_at (entry_grid first_rows first_cols first_sads) (entry_grid second_rows second_cols second_sads) i }
+    ensures { result ≡ differs_at (grid_of first_rows.now first_cols.now first_sads.now) (grid_of second_rows.now second_cols.now second_sads.now) i }
 {
     let a = stats_at(first_rows, first_cols, first_sads, i);
     let b = stats_at(second_rows, second_cols, second_sads, i);
@@ -43,7 +43,7 @@ pub(crate) fn count_differing(
 ) -> usize
     requires to_in_bounds { (to ≤ length first_rows.now) × (to ≤ length first_cols.now) × (to ≤ length first_sads.now) }
     requires to_in_bounds_2 { (to ≤ length second_rows.now) × (to ≤ length second_cols.now) × (to ≤ length second_sads.now) }
-    ensures { result ≡ length (differing (entry_grid first_rows first_cols first_sads) (entry_grid second_rows second_cols second_sads) from to) }
+    ensures { result ≡ length (differing (grid_of first_rows.now first_cols.now first_sads.now) (grid_of second_rows.now second_cols.now second_sads.now) from to) }
 {
     let mut count = 0;
     let mut i = from;
@@ -77,7 +77,7 @@ pub(crate) fn next_differing(
 ) -> usize
     requires to_in_bounds { (to ≤ length first_rows.now) × (to ≤ length first_cols.now) × (to ≤ length first_sads.now) }
     requires to_in_bounds_2 { (to ≤ length second_rows.now) × (to ≤ length second_cols.now) × (to ≤ length second_sads.now) }
-    ensures { result ≡ get_or (differing (entry_grid first_rows first_cols first_sads) (entry_grid second_rows second_cols second_sads) from to) 0 to }
+    ensures { result ≡ get_or (differing (grid_of first_rows.now first_cols.now first_sads.now) (grid_of second_rows.now second_cols.now second_sads.now) from to) 0 to }
 {
     let mut i = from;
     while i < to {

@@ -1,5 +1,5 @@
 ghost use Rattle.std.specs.Prelude.{◌≡◌};
-ghost use Rattle.grid.specs.Lent.{entry_grid, exit_grid};
+ghost use Rattle.grid.specs.Grid.{grid_of};
 ghost use Rattle.gridfile.specs.Writing.{write_answer, written_file};
 ghost use Rattle.gridfile.specs.Peek.{peek_answer};
 ghost use Rattle.gridfile.specs.Reading.{read_answer, read_grid};
@@ -11,8 +11,7 @@ use motion::limits::CELL_SIDE;
 use records::limits::{CELL_BYTES, HEADER_BYTES, MOST_FILE_CELLS};
 use records::parts::put_header;
 
-#[unsafe(no_mangle)]
-pub extern "C" fn lockdapple_grid_write(
+pub fn lockdapple_grid_write(
     width: usize,
     height: usize,
     rows: &[i16],
@@ -20,8 +19,8 @@ pub extern "C" fn lockdapple_grid_write(
     sads: &[u32],
     file: &mut [u8],
 ) -> Written
-    ensures value { result ≡ write_answer width height (entry_grid rows cols sads) file.old }
-    ensures file_after { file.new ≡ written_file width height (entry_grid rows cols sads) file.old }
+    ensures value { result ≡ write_answer width height (grid_of rows.now cols.now sads.now) file.old }
+    ensures file_after { file.new ≡ written_file width height (grid_of rows.now cols.now sads.now) file.old }
 {
     let code = write_refusal(
         width,
@@ -41,15 +40,14 @@ pub extern "C" fn lockdapple_grid_write(
     }
 }
 
-#[unsafe(no_mangle)]
-pub extern "C" fn lockdapple_grid_read(
+pub fn lockdapple_grid_read(
     file: &[u8],
     rows: &mut [i16],
     cols: &mut [i16],
     sads: &mut [u32],
 ) -> Shape
-    ensures value { result ≡ read_answer file.now (entry_grid rows cols sads) }
-    ensures sads_value { exit_grid rows cols sads ≡ read_grid file.now (entry_grid rows cols sads) }
+    ensures value { result ≡ read_answer file.now (grid_of rows.old cols.old sads.old) }
+    ensures sads_value { grid_of rows.new cols.new sads.new ≡ read_grid file.now (grid_of rows.old cols.old sads.old) }
 {
     let code = header_refusal(file, room(rows.len(), cols.len(), sads.len()));
     if code != 0 {
@@ -78,8 +76,7 @@ pub extern "C" fn lockdapple_grid_read(
 }
 
 // The first four bytes of a file are enough.
-#[unsafe(no_mangle)]
-pub extern "C" fn lockdapple_grid_peek(file: &[u8]) -> Peek
+pub fn lockdapple_grid_peek(file: &[u8]) -> Peek
     ensures { result ≡ peek_answer file.now }
 {
     let code = header_refusal(file, MOST_FILE_CELLS);

@@ -1,4 +1,6 @@
 // A grid on disk: its file written into lent bytes, and read from them.
+#![tactic(auto)]
+
 pub mod calls;
 pub mod read;
 pub mod write;

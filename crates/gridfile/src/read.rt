@@ -1,6 +1,6 @@
 ghost use Rattle.std.specs.Prelude.{◌≡◌, ◌&&◌, ◌+◌, ◌*◌, ◌≤◌, ◌<◌, length, get_or, take, drop, ltb};
+ghost use Rattle.grid.specs.Grid.{grid_of};
 ghost use Rattle.ground.specs.Every.{all_below};
-ghost use Rattle.grid.specs.Lent.{entry_grid, exit_grid};
 ghost use Rattle.refusal.specs.Refusals.{refuse, ◌then◌};
 ghost use Rattle.records.specs.Forms.{plain_forms, mark, header_bytes, most_cells};
 ghost use Rattle.records.specs.Records.{file_bytes};
@@ -13,7 +13,7 @@ use records::parts::get_cell;
 
 // 0 or a refusal, and columns and rows of cells.
 #[repr(C)]
-#[derive(Drop)]
+#[derive(Clone, Copy)]
 pub struct Shape {
     pub code: u32,
     pub columns: u32,
@@ -22,7 +22,7 @@ pub struct Shape {
 
 // 0 or a refusal, columns and rows of cells, and how many bytes the whole file has.
 #[repr(C)]
-#[derive(Drop)]
+#[derive(Clone, Copy)]
 pub struct Peek {
     pub code: u32,
     pub columns: u32,
@@ -132,7 +132,7 @@ pub(crate) fn get_cells(
 )
     requires header_bytes_in_bounds { (header_bytes ≤ length file.now) × (0 < columns) × (columns ≤ most_cells) × (down ≤ most_cells) × (ended (taken 0 (between (head_of columns down) 0) (drop header_bytes file.now)) ≡ 0) }
     requires down_in_bounds { (columns * down ≤ length rows.old) × (columns * down ≤ length cols.old) × (columns * down ≤ length sads.old) }
-    ensures { exit_grid rows cols sads ≡ kept 0 (between (head_of columns down) 0) (drop header_bytes file.now) (entry_grid rows cols sads) }
+    ensures { grid_of rows.new cols.new sads.new ≡ kept 0 (between (head_of columns down) 0) (drop header_bytes file.now) (grid_of rows.old cols.old sads.old) }
 {
     let count = columns * down;
     let mut i = 0;

@@ -1,6 +1,6 @@
 ghost use Rattle.std.specs.Prelude.{◌≡◌, ◌%◌, ◌≤◌, length};
+ghost use Rattle.grid.specs.Grid.{grid_of};
 ghost use Rattle.std.proofs.lemmas.List.Edits.{sets};
-ghost use Rattle.grid.specs.Lent.{entry_grid};
 ghost use Rattle.records.specs.Forms.{one_sad, plain_forms, header_bytes};
 ghost use Rattle.records.specs.Records.{file_bytes};
 ghost use Rattle.gridfile.specs.Writing.{cell_records, write_refusal};
@@ -13,7 +13,7 @@ use refusal::refusals::{grid_ok, side_ok};
 
 // 0 or a refusal, and how many bytes the file has.
 #[repr(C)]
-#[derive(Drop)]
+#[derive(Clone, Copy)]
 pub struct Written {
     pub code: u32,
     pub bytes: u64,
@@ -41,7 +41,7 @@ pub(crate) fn write_refusal(width: usize, height: usize, room: usize, bytes: usi
 // The records of the first `count` cells, behind the header, two a turn.
 pub(crate) fn put_cells(count: usize, rows: &[i16], cols: &[i16], sads: &[u32], file: &mut [u8])
     requires { (count ≤ length rows.now) × (count ≤ length cols.now) × (count ≤ length sads.now) × (file_bytes plain_forms count ≤ length file.old) × (count % 2 ≡ 0) }
-    ensures { file.new ≡ sets file.old header_bytes (cell_records one_sad (entry_grid rows cols sads) 0 count) }
+    ensures { file.new ≡ sets file.old header_bytes (cell_records one_sad (grid_of rows.now cols.now sads.now) 0 count) }
 {
     let mut i = 0;
     while i < count {

@@ -8,7 +8,7 @@ use records::limits::{CELL_BYTES, HEADER_BYTES, MOST_CELLS};
 // The state between two calls: the refusal so far, what the header said, how many cells were taken in, and the bytes of the
 // record that comes next.
 #[repr(C)]
-#[derive(Drop)]
+#[derive(Clone, Copy)]
 pub struct Reader {
     pub code: u32,
     pub columns: u32,

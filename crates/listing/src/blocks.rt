@@ -10,14 +10,14 @@ use records::limits::CELL_BYTES;
 use records::parts::get_cell;
 
 // What goes from a step to the next: cells across, and the place of the next cell.
-#[derive(Drop)]
+#[derive(Clone, Copy)]
 pub struct Listing {
     pub across: usize,
     pub next: usize,
 }
 
 // A listing that went on, and the place behind the bytes that were put.
-#[derive(Drop)]
+#[derive(Clone, Copy)]
 pub struct Listed {
     pub listing: Listing,
     pub bytes: usize,

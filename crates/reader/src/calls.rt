@@ -1,28 +1,26 @@
 ghost use Rattle.std.specs.Prelude.{◌≡◌};
-ghost use Rattle.grid.specs.Lent.{entry_grid, exit_grid};
+ghost use Rattle.grid.specs.Grid.{grid_of};
 ghost use Rattle.reader.specs.Calls.{new_reader, take_reader, take_grid, end_reader};
 
 use crate::fragment::take_fragment;
 use grid::cells::room;
 use held::state::{Reader, between, count_of, settled};
 
-#[unsafe(no_mangle)]
-pub extern "C" fn lockdapple_reader_new() -> Reader
+pub fn lockdapple_reader_new() -> Reader
     ensures { result ≡ new_reader }
 {
     between(0, 0, 0, 0)
 }
 
-#[unsafe(no_mangle)]
-pub extern "C" fn lockdapple_reader_take(
+pub fn lockdapple_reader_take(
     reader: Reader,
     fragment: &[u8],
     rows: &mut [i16],
     cols: &mut [i16],
     sads: &mut [u32],
 ) -> Reader
-    ensures value { result ≡ take_reader reader fragment.now (entry_grid rows cols sads) }
-    ensures sads_value { exit_grid rows cols sads ≡ take_grid reader fragment.now (entry_grid rows cols sads) }
+    ensures value { result ≡ take_reader reader fragment.now (grid_of rows.old cols.old sads.old) }
+    ensures sads_value { grid_of rows.new cols.new sads.new ≡ take_grid reader fragment.now (grid_of rows.old cols.old sads.old) }
 {
     let first = settled(reader);
     if first.code != 0 {
@@ -35,8 +33,7 @@ pub extern "C" fn lockdapple_reader_take(
     take_fragment(first, space, fragment, rows, cols, sads)
 }
 
-#[unsafe(no_mangle)]
-pub extern "C" fn lockdapple_reader_end(reader: Reader) -> Reader
+pub fn lockdapple_reader_end(reader: Reader) -> Reader
     ensures { result ≡ end_reader reader }
 {
     let first = settled(reader);

@@ -1,6 +1,5 @@
 ghost use Rattle.std.specs.Prelude.{◌≡◌, ◌+◌, ◌*◌, ◌-◌, ◌/◌, ◌≤◌, ◌<◌, min, length, take};
-ghost use Rattle.grid.specs.Grid.{room};
-ghost use Rattle.grid.specs.Lent.{lent_grid, entry_grid, exit_grid};
+ghost use Rattle.grid.specs.Grid.{grid_of, room};
 ghost use Rattle.records.specs.Forms.{cell_bytes, most_cells};
 ghost use Rattle.gridfile.specs.Reading.{head_of, between, taken, keep, kept};
 ghost use Rattle.held.specs.Held.{reader_of, state_of, Settled};
@@ -18,8 +17,8 @@ const LAST_PLACE: usize = CELL_LAST as usize;
 
 // The cell that a byte completes goes to the grid.
 fn keep_byte(reader: Reader, byte: u8, rows: &mut [i16], cols: &mut [i16], sads: &mut [u32])
-    requires { Settled reader × Fits (room (lent_grid rows cols sads)) (state_of reader) }
-    ensures { exit_grid rows cols sads ≡ keep (room (entry_grid rows cols sads)) (state_of reader) byte (entry_grid rows cols sads) }
+    requires { Settled reader × Fits (room (grid_of rows.old cols.old sads.old)) (state_of reader) }
+    ensures { grid_of rows.new cols.new sads.new ≡ keep (room (grid_of rows.old cols.old sads.old)) (state_of reader) byte (grid_of rows.old cols.old sads.old) }
 {
     if reader.code != 0 {
         return;
@@ -45,9 +44,9 @@ fn take_bytes(
     cols: &mut [i16],
     sads: &mut [u32],
 ) -> Reader
-    requires { Settled reader × Fits space (state_of reader) × (space ≡ room (lent_grid rows cols sads)) }
+    requires { Settled reader × Fits space (state_of reader) × (space ≡ room (grid_of rows.old cols.old sads.old)) }
     ensures value { result ≡ reader_of (taken space (state_of reader) fragment.now) }
-    ensures sads_value { exit_grid rows cols sads ≡ kept space (state_of reader) fragment.now (entry_grid rows cols sads) }
+    ensures sads_value { grid_of rows.new cols.new sads.new ≡ kept space (state_of reader) fragment.now (grid_of rows.old cols.old sads.old) }
 {
     let mut held = reader;
     let mut i = 0;
@@ -87,7 +86,7 @@ fn take_records(
     requires columns_nonzero { (0 < columns) × (columns ≤ most_cells) × (down ≤ most_cells) }
     requires down_in_bounds { (columns * down ≤ length rows.old) × (columns * down ≤ length cols.old) × (columns * down ≤ length sads.old) }
     ensures upper_bound { (result ≤ columns * down - cells) × (cell_bytes * result ≤ length fragment.now) × (taken 0 (between (head_of columns down) cells) (take (cell_bytes * result) fragment.now) ≡ between (head_of columns down) (cells + result)) }
-    ensures sads_value { exit_grid rows cols sads ≡ kept 0 (between (head_of columns down) cells) (take (cell_bytes * result) fragment.now) (entry_grid rows cols sads) }
+    ensures sads_value { grid_of rows.new cols.new sads.new ≡ kept 0 (between (head_of columns down) cells) (take (cell_bytes * result) fragment.now) (grid_of rows.old cols.old sads.old) }
 {
     let most = whole_records(columns * down, cells, fragment.len());
     let mut i = 0;
@@ -111,9 +110,9 @@ fn take_on(
     cols: &mut [i16],
     sads: &mut [u32],
 ) -> Reader
-    requires { Settled reader × Fits space (state_of reader) × (space ≡ room (lent_grid rows cols sads)) }
+    requires { Settled reader × Fits space (state_of reader) × (space ≡ room (grid_of rows.old cols.old sads.old)) }
     ensures value { result ≡ reader_of (taken space (state_of reader) fragment.now) }
-    ensures sads_value { exit_grid rows cols sads ≡ kept space (state_of reader) fragment.now (entry_grid rows cols sads) }
+    ensures sads_value { grid_of rows.new cols.new sads.new ≡ kept space (state_of reader) fragment.now (grid_of rows.old cols.old sads.old) }
 {
     if !at_a_cell(reader) {
         return take_bytes(reader, space, fragment, rows, cols, sads);
@@ -136,9 +135,9 @@ pub(crate) fn take_fragment(
     cols: &mut [i16],
     sads: &mut [u32],
 ) -> Reader
-    requires { Settled reader × (reader.code ≡ 0) × Fits space (state_of reader) × (space ≡ room (lent_grid rows cols sads)) }
+    requires { Settled reader × (reader.code ≡ 0) × Fits space (state_of reader) × (space ≡ room (grid_of rows.old cols.old sads.old)) }
     ensures value { result ≡ reader_of (taken space (state_of reader) fragment.now) }
-    ensures sads_value { exit_grid rows cols sads ≡ kept space (state_of reader) fragment.now (entry_grid rows cols sads) }
+    ensures sads_value { grid_of rows.new cols.new sads.new ≡ kept space (state_of reader) fragment.now (grid_of rows.old cols.old sads.old) }
 {
     let ahead = missing(reader);
     if fragment.len() <= ahead {

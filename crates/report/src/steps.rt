@@ -12,7 +12,7 @@ use records::limits::CELL_BYTES;
 use records::parts::get_cell;
 
 // What goes from a step to the next: cells across, the place of the next cell, and how many differed.
-#[derive(Drop)]
+#[derive(Clone, Copy)]
 pub struct Report {
     pub across: usize,
     pub next: usize,
@@ -20,7 +20,7 @@ pub struct Report {
 }
 
 // A report that went on, and the place behind the bytes that were put.
-#[derive(Drop)]
+#[derive(Clone, Copy)]
 pub struct Reported {
     pub report: Report,
     pub bytes: usize,
@@ -70,7 +70,7 @@ pub fn report_step(
     count: usize,
     out: &mut [u8],
 ) -> Reported
-    requires fact { Open report count × (line_room * count ≤ length out.old) }
+    requires open_and_room { Open report count × (line_room * count ≤ length out.old) }
     requires count_in_bounds { (cell_bytes * count ≤ length first.now) × (cell_bytes * count ≤ length second.now) }
     ensures report_value { result.report ≡ step_report report (record_cells first.now count) (record_cells second.now count) }
     ensures put { Put (step_bytes report (record_cells first.now count) (record_cells second.now count)) 0 out.old result.bytes out.new }
