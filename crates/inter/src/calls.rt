@@ -1,6 +1,6 @@
 ghost use Rattle.std.specs.Prelude.{◌≡◌};
-ghost use Rattle.grid.specs.Lent.{entry_grid, exit_grid};
-ghost use Rattle.estimate.specs.Inputs.{entry_planes};
+ghost use Rattle.grid.specs.Grid.{grid_of};
+ghost use Rattle.estimate.specs.Inputs.{planes_of};
 ghost use Rattle.inter.specs.Runs.{run_refusal, run_grid};
 
 use crate::runs::{PlaneLengths, run_tests};
@@ -10,8 +10,7 @@ use grid::cells::room;
 use motion::superblocks::superblocks_along;
 use order::list::list_refusal;
 
-#[unsafe(no_mangle)]
-pub extern "C" fn lockdapple_frame_run(
+pub fn lockdapple_frame_run(
     width: usize,
     height: usize,
     cur: &[u8],
@@ -29,8 +28,8 @@ pub extern "C" fn lockdapple_frame_run(
     cols: &mut [i16],
     sads: &mut [u32],
 ) -> u32
-    ensures value { result ≡ run_refusal width height (entry_planes cur cur_half cur_quarter) (entry_planes reference ref_half ref_quarter) present (entry_grid prev_rows prev_cols prev_sads) list.now (entry_grid rows cols sads) }
-    ensures sads_value { exit_grid rows cols sads ≡ run_grid width height (entry_planes cur cur_half cur_quarter) (entry_planes reference ref_half ref_quarter) present (entry_grid prev_rows prev_cols prev_sads) 0 list.now (entry_grid rows cols sads) }
+    ensures value { result ≡ run_refusal width height (planes_of cur.now cur_half.now cur_quarter.now) (planes_of reference.now ref_half.now ref_quarter.now) present (grid_of prev_rows.now prev_cols.now prev_sads.now) list.now (grid_of rows.old cols.old sads.old) }
+    ensures sads_value { grid_of rows.new cols.new sads.new ≡ run_grid width height (planes_of cur.now cur_half.now cur_quarter.now) (planes_of reference.now ref_half.now ref_quarter.now) present (grid_of prev_rows.now prev_cols.now prev_sads.now) 0 list.now (grid_of rows.old cols.old sads.old) }
 {
     let cur_lengths = PlaneLengths {
         full: cur.len(),

@@ -4,7 +4,7 @@ ghost use Rattle.inter.specs.Runs.{run_tests};
 use refusal::refusals::{grids_hold, planes_refusal, side_ok};
 
 // How long the three planes of a frame are.
-#[derive(Drop)]
+#[derive(Clone, Copy)]
 pub struct PlaneLengths {
     pub full: usize,
     pub half: usize,

@@ -1,5 +1,5 @@
 ghost use Rattle.std.specs.Prelude.{◌≡◌};
-ghost use Rattle.grid.specs.Lent.{entry_grid};
+ghost use Rattle.grid.specs.Grid.{grid_of};
 ghost use Rattle.searches.specs.Searches.{search_answer};
 ghost use Rattle.searches.specs.Refinement.{refine_answer};
 
@@ -12,8 +12,7 @@ use refusal::refusals::{call_refusal, grid_ok};
 use single::call::block_at;
 use single::found::Found;
 
-#[unsafe(no_mangle)]
-pub extern "C" fn lockdapple_diamond(
+pub fn lockdapple_diamond(
     width: usize,
     height: usize,
     level: usize,
@@ -42,8 +41,7 @@ pub extern "C" fn lockdapple_diamond(
     )
 }
 
-#[unsafe(no_mangle)]
-pub extern "C" fn lockdapple_hexagon(
+pub fn lockdapple_hexagon(
     width: usize,
     height: usize,
     level: usize,
@@ -72,8 +70,7 @@ pub extern "C" fn lockdapple_hexagon(
     )
 }
 
-#[unsafe(no_mangle)]
-pub extern "C" fn lockdapple_multi_hexagon(
+pub fn lockdapple_multi_hexagon(
     width: usize,
     height: usize,
     level: usize,
@@ -102,8 +99,7 @@ pub extern "C" fn lockdapple_multi_hexagon(
     )
 }
 
-#[unsafe(no_mangle)]
-pub extern "C" fn lockdapple_refine(
+pub fn lockdapple_refine(
     width: usize,
     height: usize,
     level: usize,
@@ -116,7 +112,7 @@ pub extern "C" fn lockdapple_refine(
     sads: &[u32],
     weight: u32,
 ) -> Found
-    ensures { result ≡ refine_answer width height level bx by cur.now reference.now (entry_grid rows cols sads) weight }
+    ensures { result ≡ refine_answer width height level bx by cur.now reference.now (grid_of rows.now cols.now sads.now) weight }
 {
     let code = call_refusal(width, height, level, 1, bx, by, cur.len(), reference.len());
     if code != 0 {

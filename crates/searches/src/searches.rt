@@ -15,7 +15,7 @@ use single::call::block_at;
 use single::found::Found;
 
 // The single searches.
-#[derive(Drop)]
+#[derive(Clone, Copy)]
 pub enum Method {
     Diamond,
     Hexagon,

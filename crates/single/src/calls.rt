@@ -1,6 +1,6 @@
 ghost use Rattle.std.specs.Prelude.{◌≡◌};
+ghost use Rattle.grid.specs.Grid.{grid_of};
 ghost use Rattle.motion.specs.Rate.{rate_v};
-ghost use Rattle.grid.specs.Lent.{entry_grid};
 ghost use Rattle.single.specs.Leaves.{range_answer, candidate_answer};
 ghost use Rattle.single.specs.Predicting.{predictors_answer};
 
@@ -15,15 +15,13 @@ use predict::predictors::get_subset_predictors;
 use refusal::refusals::{block_refusal, call_refusal, grids_hold};
 use sad::rd::get_fullpel_mv_rd;
 
-#[unsafe(no_mangle)]
-pub extern "C" fn lockdapple_rate(row: i16, col: i16) -> u32
+pub fn lockdapple_rate(row: i16, col: i16) -> u32
     ensures { result ≡ rate_v (record { row = row; col = col }) }
 {
     get_mv_rate(MotionVector { row, col })
 }
 
-#[unsafe(no_mangle)]
-pub extern "C" fn lockdapple_range(
+pub fn lockdapple_range(
     width: usize,
     height: usize,
     level: usize,
@@ -53,8 +51,7 @@ pub extern "C" fn lockdapple_range(
     }
 }
 
-#[unsafe(no_mangle)]
-pub extern "C" fn lockdapple_candidate(
+pub fn lockdapple_candidate(
     width: usize,
     height: usize,
     level: usize,
@@ -87,8 +84,7 @@ pub extern "C" fn lockdapple_candidate(
     Found::done(mv, get_fullpel_mv_rd(b, cur, reference, mv))
 }
 
-#[unsafe(no_mangle)]
-pub extern "C" fn lockdapple_predictors(
+pub fn lockdapple_predictors(
     width: usize,
     height: usize,
     level: usize,
@@ -102,7 +98,7 @@ pub extern "C" fn lockdapple_predictors(
     cols: &[i16],
     sads: &[u32],
 ) -> Predictors
-    ensures { result ≡ predictors_answer width height level bx by present (entry_grid prev_rows prev_cols prev_sads) (entry_grid rows cols sads) }
+    ensures { result ≡ predictors_answer width height level bx by present (grid_of prev_rows.now prev_cols.now prev_sads.now) (grid_of rows.now cols.now sads.now) }
 {
     let code = block_refusal(width, height, level, 0, bx, by);
     if code != 0 {

@@ -6,7 +6,7 @@ use sad::rd::MVCandidateRD;
 
 // What a single search, a refinement or a candidate gives: 0 or a refusal, and a vector with its SAD and cost.
 #[repr(C)]
-#[derive(Drop)]
+#[derive(Clone, Copy)]
 pub struct Found {
     pub code: u32,
     pub row: i16,

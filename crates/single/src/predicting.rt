@@ -5,7 +5,7 @@ use motion::vector::MotionVector;
 
 // 0 or a refusal, and the predictors of a block.
 #[repr(C)]
-#[derive(Drop)]
+#[derive(Clone, Copy)]
 pub struct Predictors {
     pub code: u32,
     pub min_sad: u32,

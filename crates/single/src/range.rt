@@ -1,6 +1,6 @@
 // 0 or a refusal, and the ends of a block's range.
 #[repr(C)]
-#[derive(Drop)]
+#[derive(Clone, Copy)]
 pub struct Range {
     pub code: u32,
     pub mvx_min: i16,

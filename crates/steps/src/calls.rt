@@ -1,6 +1,6 @@
 ghost use Rattle.std.specs.Prelude.{◌≡◌};
-ghost use Rattle.grid.specs.Lent.{entry_grid, exit_grid};
-ghost use Rattle.estimate.specs.Inputs.{plane_at, entry_planes};
+ghost use Rattle.grid.specs.Grid.{grid_of};
+ghost use Rattle.estimate.specs.Inputs.{plane_at, planes_of};
 ghost use Rattle.steps.specs.Steps.{step_refusal, step_grid};
 
 use crate::steps::{plane_at, step_tests};
@@ -8,8 +8,7 @@ use estimate::step::{Frame, Step};
 use grid::cells::room;
 use superblock::step::superblock_step;
 
-#[unsafe(no_mangle)]
-pub extern "C" fn lockdapple_superblock_step<'a>(
+pub fn lockdapple_superblock_step<'a>(
     width: usize,
     height: usize,
     level: usize,
@@ -28,8 +27,8 @@ pub extern "C" fn lockdapple_superblock_step<'a>(
     cols: &mut [i16],
     sads: &mut [u32],
 ) -> u32
-    ensures value { result ≡ step_refusal width height level superblock (plane_at (entry_planes cur cur_half cur_quarter) level) (plane_at (entry_planes reference ref_half ref_quarter) level) present (entry_grid prev_rows prev_cols prev_sads) (entry_grid rows cols sads) }
-    ensures sads_value { exit_grid rows cols sads ≡ step_grid width height level superblock (plane_at (entry_planes cur cur_half cur_quarter) level) (plane_at (entry_planes reference ref_half ref_quarter) level) present (entry_grid prev_rows prev_cols prev_sads) 0 (entry_grid rows cols sads) }
+    ensures value { result ≡ step_refusal width height level superblock (plane_at (planes_of cur.now cur_half.now cur_quarter.now) level) (plane_at (planes_of reference.now ref_half.now ref_quarter.now) level) present (grid_of prev_rows.now prev_cols.now prev_sads.now) (grid_of rows.old cols.old sads.old) }
+    ensures sads_value { grid_of rows.new cols.new sads.new ≡ step_grid width height level superblock (plane_at (planes_of cur.now cur_half.now cur_quarter.now) level) (plane_at (planes_of reference.now ref_half.now ref_quarter.now) level) present (grid_of prev_rows.now prev_cols.now prev_sads.now) 0 (grid_of rows.old cols.old sads.old) }
 {
     let at_cur = plane_at(level, cur, cur_half, cur_quarter);
     let at_ref = plane_at(level, reference, ref_half, ref_quarter);

@@ -1,5 +1,5 @@
 ghost use Rattle.std.specs.Prelude.{◌≡◌};
-ghost use Rattle.estimate.specs.Inputs.{plane_at, entry_planes};
+ghost use Rattle.estimate.specs.Inputs.{plane_at, planes_of};
 ghost use Rattle.steps.specs.Steps.{step_tests};
 
 use motion::superblocks::superblocks_of;
@@ -12,7 +12,7 @@ pub(crate) fn plane_at<'a>(
     half: &'a [u8],
     quarter: &'a [u8],
 ) -> &'a [u8]
-    ensures { result.now ≡ plane_at (entry_planes full half quarter) level }
+    ensures { result.now ≡ plane_at (planes_of full.now half.now quarter.now) level }
 {
     if level == 4 {
         return quarter;

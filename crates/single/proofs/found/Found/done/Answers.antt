@@ -1,20 +1,15 @@
 -- `single::found::Found::done` meets its contract.
--- Assumes nothing.
 use borrow.Author.Rules.{rules}
 use mir.Syntax.{w16}
 use mir.Val.{SFits}
 use mir.ValLaws.{to_z-of_z}
 use Rattle.single.specs.Found.{found_of}
-use Rattle.single.proofs.found.Found.done.Statement.{statement}
-use Rattle.single.proofs.found.Found.done.Tie as tie
+use Rattle.single.proofs.found.Found.done.Goals as goal
 
-returns : tie.Need-returns
+pub returns : goal.returns
 unfolding found_of
 returns c =
-    let v = c.before.args.mv in
+    let v = c.args.mv in
     let row : SFits w16 v.row = search rules in
     let col : SFits w16 v.col = search rules in
     simp to_z-of_z
-
-pub done-spec : {M : Type 1} → statement M
-done-spec = tie.close (tie.spec returns)
