@@ -12,9 +12,10 @@ use passes::files::{Checked, open_again};
 use passes::output::write;
 use records::limits::CELL_BYTES;
 use report::steps::{Report, report_end, report_new, report_step};
+use std::fs::File;
 
 // Both files beside each other: the report so far, the sums of both, and whether it goes on.
-#[derive(Drop)]
+#[derive(Clone, Copy)]
 struct Pass {
     on: bool,
     report: Report,
@@ -38,9 +39,10 @@ impl Pass {
 
 // A block of both files, and the lines of its cells that differ.
 fn pass_block(
+    rt: &HostRuntime,
     pass: Pass,
-    first_fd: i32,
-    second_fd: i32,
+    first_file: &mut File,
+    second_file: &mut File,
     count: usize,
     a: &mut [u8],
     b: &mut [u8],
@@ -50,16 +52,16 @@ fn pass_block(
     requires count_in_bounds { (cell_bytes * count ≤ length a.old) × (cell_bytes * count ≤ length b.old) × (line_room * count ≤ length out.old) }
     ensures { result.on ≡ true → Passed pass.report count result.report }
 {
-    let first = load(first_fd, 1, pass.first, count, a);
+    let first = load(rt, first_file, 1, pass.first, count, a);
     if !first.there {
         return pass.stopped();
     }
-    let second = load(second_fd, 2, pass.second, count, b);
+    let second = load(rt, second_file, 2, pass.second, count, b);
     if !second.there {
         return pass.stopped();
     }
     let done = report_step(pass.report, &*a, &*b, count, out);
-    if !write(&*out, done.bytes) {
+    if !write(rt, &*out, done.bytes) {
         return pass.stopped();
     }
     let report = done.report;
@@ -73,9 +75,10 @@ fn pass_block(
 
 // The lines of all cells that differ, block by block.
 fn pass_cells(
+    rt: &HostRuntime,
     start: Pass,
-    first_fd: i32,
-    second_fd: i32,
+    first_file: &mut File,
+    second_file: &mut File,
     cells: usize,
     a: &mut [u8],
     b: &mut [u8],
@@ -87,7 +90,7 @@ fn pass_cells(
     let mut pass = start;
     while pass.report.next < cells {
         let count = least(BLOCK, cells - pass.report.next);
-        pass = pass_block(pass, first_fd, second_fd, count, a, b, out);
+        pass = pass_block(rt, pass, first_file, second_file, count, a, b, out);
         if !pass.on {
             return pass;
         }
@@ -95,14 +98,20 @@ fn pass_cells(
     pass
 }
 
-fn write_last(report: Report) {
+fn write_last(rt: &HostRuntime, report: Report) {
     let mut out = [0u8; LINE];
     let n = report_end(report, &mut out);
-    write(&out, n);
+    write(rt, &out, n);
 }
 
 // Two open files, from their first byte on.
-fn compare_open(first: Checked, second: Checked, first_fd: i32, second_fd: i32)
+fn compare_open(
+    rt: &HostRuntime,
+    first: Checked,
+    second: Checked,
+    first_file: &mut File,
+    second_file: &mut File,
+)
     requires { Shaped first.shape × (first.shape.code ≡ 0) }
 {
     let across = first.shape.columns as usize;
@@ -110,39 +119,43 @@ fn compare_open(first: Checked, second: Checked, first_fd: i32, second_fd: i32)
     let start = Pass {
         on: true,
         report: report_new(across),
-        first: header_sum(first_fd),
-        second: header_sum(second_fd),
+        first: header_sum(first_file),
+        second: header_sum(second_file),
     };
     let mut a = [0u8; CELL_BYTES * BLOCK];
     let mut b = [0u8; CELL_BYTES * BLOCK];
     let mut out = [0u8; LINE * BLOCK];
-    let pass = pass_cells(start, first_fd, second_fd, cells, &mut a, &mut b, &mut out);
+    let pass = pass_cells(
+        rt,
+        start,
+        first_file,
+        second_file,
+        cells,
+        &mut a,
+        &mut b,
+        &mut out,
+    );
     if !pass.on {
         return;
     }
-    if !same_at_end(first_fd, 1, pass.first, first.sum) {
+    if !same_at_end(rt, first_file, 1, pass.first, first.sum) {
         return;
     }
-    if !same_at_end(second_fd, 2, pass.second, second.sum) {
+    if !same_at_end(rt, second_file, 2, pass.second, second.sum) {
         return;
     }
-    write_last(pass.report);
+    write_last(rt, pass.report);
 }
 
 // The lines of two files of one shape that were checked, and the last.
-pub(crate) fn compare(first: Checked, second: Checked)
+pub(crate) fn compare(rt: &HostRuntime, first: Checked, second: Checked)
     requires { Shaped first.shape × (first.shape.code ≡ 0) }
 {
-    let first_fd = open_again(1);
-    if first_fd < 0 {
+    let Some(mut first_file) = open_again(rt, 1) else {
         return;
-    }
-    let second_fd = open_again(2);
-    if second_fd < 0 {
-        libc::close(first_fd);
+    };
+    let Some(mut second_file) = open_again(rt, 2) else {
         return;
-    }
-    compare_open(first, second, first_fd, second_fd);
-    libc::close(first_fd);
-    libc::close(second_fd);
+    };
+    compare_open(rt, first, second, &mut first_file, &mut second_file);
 }

@@ -7,10 +7,13 @@
 // Standard error says in words what a refusal means, which file could not be read or changed, and that a line could not be
 // written; after such words there is no last line. A file is gone through twice, some bytes at a time: to check it, and beside
 // the other one. So a grid of any size takes the same memory.
+#![tactic(auto)]
+
 mod lines;
 mod words;
 
 use compare::calls::compare_refusal;
+use given::arguments::argument_count;
 use lines::compare;
 use passes::files::check_named;
 use passes::output::write_refused;
@@ -18,24 +21,27 @@ use passes::words::say;
 use records::limits::MOST_FILE_CELLS;
 use words::say_refused;
 
-fn main() {
-    if os::arg_count() != 3 {
-        say(b"expected two grid files: compare_grids FIRST SECOND\n");
+fn main(rt: HostRuntime) {
+    if argument_count(&rt) != 3 {
+        say(
+            &rt,
+            b"expected two grid files: compare_grids FIRST SECOND\n",
+        );
         return;
     }
-    let first = check_named(1);
+    let first = check_named(&rt, 1);
     if !first.read {
         return;
     }
-    let second = check_named(2);
+    let second = check_named(&rt, 2);
     if !second.read {
         return;
     }
     let code = compare_refusal(first.shape, MOST_FILE_CELLS, second.shape, MOST_FILE_CELLS);
     if code != 0 {
-        write_refused(code);
-        say_refused(first.shape.code, second.shape.code);
+        write_refused(&rt, code);
+        say_refused(&rt, first.shape.code, second.shape.code);
         return;
     }
-    compare(first, second);
+    compare(&rt, first, second);
 }

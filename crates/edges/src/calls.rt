@@ -44,7 +44,7 @@ fn sums_mut(all: &mut [u32], case: Case, buffer: usize) -> &mut [u32] {
     all
 }
 
-fn run(case: Case, flat: &[u8], list: &[u16]) {
+fn run(rt: &impl Print, case: Case, flat: &[u8], list: &[u16]) {
     let present = case.present();
     let prev = [0i16; LENT_CELLS];
     let prev_sads = [0u32; LENT_CELLS];
@@ -70,10 +70,10 @@ fn run(case: Case, flat: &[u8], list: &[u16]) {
         sums_mut(&mut sads, case, 11),
     );
     // Document 01's flat frame is the one without a previous grid.
-    report(code, case.cells, present == 0, &rows, &cols, &sads);
+    report(rt, code, case.cells, present == 0, &rows, &cols, &sads);
 }
 
-fn step(level: usize, case: Case, flat: &[u8]) {
+fn step(rt: &impl Print, level: usize, case: Case, flat: &[u8]) {
     let prev = [0i16; LENT_CELLS];
     let prev_sads = [0u32; LENT_CELLS];
     let mut rows = [BEFORE; LENT_CELLS];
@@ -98,15 +98,15 @@ fn step(level: usize, case: Case, flat: &[u8]) {
         vectors_mut(&mut cols, case, 10),
         sums_mut(&mut sads, case, 11),
     );
-    report(code, case.cells, false, &rows, &cols, &sads);
+    report(rt, code, case.cells, false, &rows, &cols, &sads);
 }
 
 // Makes the case's call on a grid of its own, and prints its line.
-pub(crate) fn tried(case: Case, flat: &[u8], list: &[u16]) {
-    case.say();
+pub(crate) fn tried(rt: &impl Print, case: Case, flat: &[u8], list: &[u16]) {
+    case.say(rt);
     let call = case.call;
     match call {
-        Call::Run => run(case, flat, list),
-        Call::Step(level) => step(level, case, flat),
+        Call::Run => run(rt, case, flat, list),
+        Call::Step(level) => step(rt, level, case, flat),
     }
 }

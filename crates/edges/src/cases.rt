@@ -19,7 +19,7 @@ pub(crate) const LONGEST: usize = (1032 + 2 * 48) * (8 + 2 * 48);
 pub(crate) const BUFFERS: usize = 12;
 
 // A step is that of superblock 0 at a level.
-#[derive(Drop)]
+#[derive(Clone, Copy)]
 pub(crate) enum Call {
     Run,
     Step(usize),
@@ -27,7 +27,7 @@ pub(crate) enum Call {
 
 // How long the buffers are: longer than needed, or as an 8 by 8 frame needs them, but for one that is an element shorter
 // or for the three of a previous grid that is absent, which are empty.
-#[derive(Drop)]
+#[derive(Clone, Copy)]
 pub(crate) enum Lent {
     Longer,
     Exact,
@@ -35,7 +35,7 @@ pub(crate) enum Lent {
     NoPrevious,
 }
 
-#[derive(Drop)]
+#[derive(Clone, Copy)]
 pub(crate) struct Case {
     pub(crate) call: Call,
     pub(crate) width: usize,
@@ -57,24 +57,26 @@ fn needed(buffer: usize) -> usize
 }
 
 // Name k of six, cut from one text: a `match` with a text in each arm is slow to check.
-fn name_in(names: &[u8], k: usize) {
+fn name_in(rt: &impl Print, names: &[u8], k: usize) {
     if k < 6 {
         let from = 12 * k;
         let to = from + 12;
         if to <= names.len() {
-            text(&names[from..to]);
+            text(rt, &names[from..to]);
         }
     }
 }
 
-fn name(buffer: usize) {
+fn name(rt: &impl Print, buffer: usize) {
     if buffer < 6 {
         name_in(
+            rt,
             b"cur         cur_half    cur_quarter reference   ref_half    ref_quarter ",
             buffer,
         );
     } else {
         name_in(
+            rt,
             b"prev_rows   prev_cols   prev_sads   rows        cols        sads        ",
             buffer - 6,
         );
@@ -105,29 +107,29 @@ impl Case {
         if let Lent::NoPrevious = lent { 0 } else { 1 }
     }
 
-    fn say_lent(self) {
+    fn say_lent(self, rt: &impl Print) {
         let lent = self.lent;
         match lent {
-            Lent::Longer => text(b"every buffer longer"),
-            Lent::Exact => text(b"exactly full"),
+            Lent::Longer => text(rt, b"every buffer longer"),
+            Lent::Exact => text(rt, b"exactly full"),
             Lent::Short(buffer) => {
-                name(buffer);
-                text(b"one short");
+                name(rt, buffer);
+                text(rt, b"one short");
             }
-            Lent::NoPrevious => text(b"no previous grid"),
+            Lent::NoPrevious => text(rt, b"no previous grid"),
         }
     }
 
     // The start of the case's line.
-    pub(crate) fn say(self) {
+    pub(crate) fn say(self, rt: &impl Print) {
         let call = self.call;
         match call {
-            Call::Run => text(b"run"),
-            Call::Step(level) => labelled(b"step level ", level as u64),
+            Call::Run => text(rt, b"run"),
+            Call::Step(level) => labelled(rt, b"step level ", level as u64),
         }
-        labelled(b" width ", self.width as u64);
-        labelled(b" height ", self.height as u64);
-        text(b", ");
-        self.say_lent();
+        labelled(rt, b" width ", self.width as u64);
+        labelled(rt, b" height ", self.height as u64);
+        text(rt, b", ");
+        self.say_lent(rt);
     }
 }

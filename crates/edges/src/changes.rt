@@ -25,7 +25,7 @@ fn changed(row: i16, col: i16, sad: u32) -> u64
 }
 
 // How many numbers of the grid changed: of the frame's cells, and of those past them.
-#[derive(Drop)]
+#[derive(Clone, Copy)]
 struct Changes {
     written: u64,
     past: u64,
@@ -54,6 +54,7 @@ fn counted(
 
 // The end of a case's line, and the grid of an 8 by 8 frame where it is to be shown.
 pub(crate) fn report(
+    rt: &impl Print,
     code: u32,
     cells: usize,
     shown: bool,
@@ -62,11 +63,11 @@ pub(crate) fn report(
     sads: &[u32; LENT_CELLS],
 ) {
     let n = counted(cells, rows, cols, sads);
-    labelled(b": ", code as u64);
-    labelled(b", ", n.written);
-    labelled(b" written, ", n.past);
-    text(b" past\n");
+    labelled(rt, b": ", code as u64);
+    labelled(rt, b", ", n.written);
+    labelled(rt, b" written, ", n.past);
+    text(rt, b" past\n");
     if shown {
-        grid(2, 4, rows, cols, sads);
+        grid(rt, 2, 4, rows, cols, sads);
     }
 }

@@ -12,6 +12,8 @@
 //     PAST       how many numbers it changed in all that lies past them; none ever
 //
 // The run with no previous grid is that of document 01's flat frame, and its cells follow as the document lists them.
+#![tactic(auto)]
+
 mod calls;
 mod cases;
 mod changes;
@@ -20,7 +22,7 @@ mod tries;
 use crate::cases::LONGEST;
 use crate::tries::all;
 
-fn main() {
+fn main(rt: HostRuntime) {
     let flat = [90u8; LONGEST];
-    all(&flat);
+    all(&rt, &flat);
 }

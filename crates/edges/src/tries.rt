@@ -5,7 +5,7 @@ use crate::cases::{BUFFERS, Call, Case, LONGEST, Lent};
 use print::{labelled, text};
 
 // A frame with one side of `side`; along the other, which is 8, lie two cells and one superblock.
-fn sized(call: Call, width: usize, height: usize, side: usize, flat: &[u8])
+fn sized(rt: &impl Print, call: Call, width: usize, height: usize, side: usize, flat: &[u8])
     requires { side ≤ 1032 }
 {
     let raster = [0u16, 1, 2, 3, 4, 5, 6, 7, 8, 9, 10, 11, 12, 13, 14, 15, 16];
@@ -17,22 +17,22 @@ fn sized(call: Call, width: usize, height: usize, side: usize, flat: &[u8])
         cells: side / 4 * 2,
         lent: Lent::Longer,
     };
-    tried(case, flat, &raster[0..superblocks]);
+    tried(rt, case, flat, &raster[0..superblocks]);
 }
 
-fn sides(call: Call, flat: &[u8]) {
-    sized(call, 8, 8, 8, flat);
-    sized(call, 1024, 8, 1024, flat);
-    sized(call, 8, 1024, 1024, flat);
-    sized(call, 0, 8, 0, flat);
-    sized(call, 8, 0, 0, flat);
-    sized(call, 7, 8, 7, flat);
-    sized(call, 8, 7, 7, flat);
-    sized(call, 1032, 8, 1032, flat);
-    sized(call, 8, 1032, 1032, flat);
+fn sides(rt: &impl Print, call: Call, flat: &[u8]) {
+    sized(rt, call, 8, 8, 8, flat);
+    sized(rt, call, 1024, 8, 1024, flat);
+    sized(rt, call, 8, 1024, 1024, flat);
+    sized(rt, call, 0, 8, 0, flat);
+    sized(rt, call, 8, 0, 0, flat);
+    sized(rt, call, 7, 8, 7, flat);
+    sized(rt, call, 8, 7, 7, flat);
+    sized(rt, call, 1032, 8, 1032, flat);
+    sized(rt, call, 8, 1032, 1032, flat);
 }
 
-fn eight_by_eight(call: Call, lent: Lent, flat: &[u8]) {
+fn eight_by_eight(rt: &impl Print, call: Call, lent: Lent, flat: &[u8]) {
     let list = [0u16; 1];
     let case = Case {
         call,
@@ -41,26 +41,26 @@ fn eight_by_eight(call: Call, lent: Lent, flat: &[u8]) {
         cells: 4,
         lent,
     };
-    tried(case, flat, &list);
+    tried(rt, case, flat, &list);
 }
 
-fn each_short(call: Call, flat: &[u8]) {
+fn each_short(rt: &impl Print, call: Call, flat: &[u8]) {
     let mut buffer = 0;
     while buffer < BUFFERS {
-        eight_by_eight(call, Lent::Short(buffer), flat);
+        eight_by_eight(rt, call, Lent::Short(buffer), flat);
         buffer += 1;
     }
 }
 
-fn edges_of(call: Call, flat: &[u8]) {
-    sides(call, flat);
-    eight_by_eight(call, Lent::Exact, flat);
-    eight_by_eight(call, Lent::NoPrevious, flat);
-    each_short(call, flat);
+fn edges_of(rt: &impl Print, call: Call, flat: &[u8]) {
+    sides(rt, call, flat);
+    eight_by_eight(rt, call, Lent::Exact, flat);
+    eight_by_eight(rt, call, Lent::NoPrevious, flat);
+    each_short(rt, call, flat);
 }
 
 // A list of two superblocks that lie side by side, or its first `count`.
-fn listed(first: u16, second: u16, count: usize, flat: &[u8])
+fn listed(rt: &impl Print, first: u16, second: u16, count: usize, flat: &[u8])
     requires { count ≤ 2 }
 {
     let list = [first, second];
@@ -72,27 +72,27 @@ fn listed(first: u16, second: u16, count: usize, flat: &[u8])
         lent: Lent::Longer,
     };
     if count == 0 {
-        text(b"list empty, ");
+        text(rt, b"list empty, ");
     } else {
-        labelled(b"list ", first as u64);
-        labelled(b" ", second as u64);
-        text(b", ");
+        labelled(rt, b"list ", first as u64);
+        labelled(rt, b" ", second as u64);
+        text(rt, b", ");
     }
-    tried(case, flat, &list[0..count]);
+    tried(rt, case, flat, &list[0..count]);
 }
 
 // The lists of document 01's case E10.
-fn lists(flat: &[u8]) {
-    listed(0, 1, 2, flat);
-    listed(1, 0, 2, flat);
-    listed(0, 0, 2, flat);
-    listed(0, 0, 0, flat);
+fn lists(rt: &impl Print, flat: &[u8]) {
+    listed(rt, 0, 1, 2, flat);
+    listed(rt, 1, 0, 2, flat);
+    listed(rt, 0, 0, 2, flat);
+    listed(rt, 0, 0, 0, flat);
 }
 
-pub(crate) fn all(flat: &[u8; LONGEST]) {
-    edges_of(Call::Run, flat);
-    edges_of(Call::Step(4), flat);
-    edges_of(Call::Step(3), flat);
-    edges_of(Call::Step(2), flat);
-    lists(flat);
+pub(crate) fn all(rt: &impl Print, flat: &[u8; LONGEST]) {
+    edges_of(rt, Call::Run, flat);
+    edges_of(rt, Call::Step(4), flat);
+    edges_of(rt, Call::Step(3), flat);
+    edges_of(rt, Call::Step(2), flat);
+    lists(rt, flat);
 }

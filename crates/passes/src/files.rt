@@ -2,17 +2,25 @@ ghost use Rattle.std.specs.Prelude.{◌≡◌};
 ghost use Rattle.passes.specs.Shaped.{Shaped};
 
 use crate::sums::summed;
+use crate::words::say_failed;
+use given::arguments::{NAME, put_argument};
+use given::files::open_named;
 use gridfile::read::Shape;
 use held::check::check_fragment;
 use held::state::Reader;
 use reader::calls::{lockdapple_reader_end, lockdapple_reader_new};
 use records::limits::{CELL_BYTES, HEADER_BYTES, MOST_FILE_CELLS};
+use std::fs::File;
+use std::io::Read;
 
 // So many reads bring in the largest file and a byte more, though each brings one byte.
 const MOST_READS: usize = HEADER_BYTES + CELL_BYTES * MOST_FILE_CELLS + 1;
 
+// As many bytes as are asked for at a time.
+const BUFFER: usize = 4096;
+
 // A file that was gone through: whether all of it could be read, its shape, and a sum over its bytes.
-#[derive(Drop)]
+#[derive(Clone, Copy)]
 pub struct Checked {
     pub read: bool,
     pub shape: Shape,
@@ -47,7 +55,7 @@ fn shape_at_end(reader: Reader) -> Shape
 }
 
 // A file that is being gone through: whether it goes on, whether all reads so far were good, and what they brought.
-#[derive(Drop)]
+#[derive(Clone, Copy)]
 struct Look {
     on: bool,
     read: bool,
@@ -55,15 +63,25 @@ struct Look {
     sum: u64,
 }
 
-// One read more: it goes on until the file ends, a byte refuses it, or the read fails.
-fn look_on(look: Look, fd: i32, buffer: &mut [u8]) -> Look {
+// One read more of the file of that name: it goes on until the file ends, a byte refuses it, or, with words, the read fails.
+fn look_on(rt: &HostRuntime, name: &[u8], file: &mut File, look: Look, buffer: &mut [u8]) -> Look {
     let before = look.reader;
-    let got = libc::read(fd, buffer);
-    let n = io::count(got, &*buffer);
+    let n = match file.read(buffer) {
+        Ok(n) => n,
+        Err(error) => {
+            say_failed(rt, name, error);
+            return Look {
+                on: false,
+                read: false,
+                reader: before,
+                sum: look.sum,
+            };
+        }
+    };
     if n == 0 {
         return Look {
             on: false,
-            read: got == 0,
+            read: true,
             reader: before,
             sum: look.sum,
         };
@@ -77,8 +95,8 @@ fn look_on(look: Look, fd: i32, buffer: &mut [u8]) -> Look {
     }
 }
 
-// An open file up to its end, or to the byte that refuses it.
-fn check_open(fd: i32, buffer: &mut [u8]) -> Checked
+// An open file up to its end, or to the byte that refuses it; words where it can't be read.
+fn check_open(rt: &HostRuntime, name: &[u8], file: &mut File, buffer: &mut [u8]) -> Checked
     ensures { Shaped result.shape }
 {
     let mut look = Look {
@@ -92,7 +110,7 @@ fn check_open(fd: i32, buffer: &mut [u8]) -> Checked
         if !look.on {
             break;
         }
-        look = look_on(look, fd, buffer);
+        look = look_on(rt, name, file, look, buffer);
         reads += 1;
     }
     let reader = look.reader;
@@ -105,32 +123,32 @@ fn check_open(fd: i32, buffer: &mut [u8]) -> Checked
 }
 
 // The file that an argument names; words where it can't be opened or read.
-pub fn check_named(which: usize) -> Checked
+pub fn check_named(rt: &HostRuntime, which: usize) -> Checked
     ensures { Shaped result.shape }
 {
-    let mut name = io::buffer();
-    let letters = os::arg(which, &mut name);
-    let fd = os::open_read(&name[..letters]);
-    if fd < 0 {
-        os::fail(&name[..letters]);
-        return unread();
+    let mut name = [0u8; NAME];
+    let letters = put_argument(rt, which, &mut name);
+    match open_named(rt, &name[..letters]) {
+        Ok(mut file) => {
+            let mut buffer = [0u8; BUFFER];
+            check_open(rt, &name[..letters], &mut file, &mut buffer)
+        }
+        Err(error) => {
+            say_failed(rt, &name[..letters], error);
+            unread()
+        }
     }
-    let mut buffer = io::buffer();
-    let checked = check_open(fd, &mut buffer);
-    if !checked.read {
-        os::fail(&name[..letters]);
-    }
-    libc::close(fd);
-    checked
 }
 
-// The same file open for reading once more; negative, with words, where it can't be.
-pub fn open_again(which: usize) -> i32 {
-    let mut name = io::buffer();
-    let letters = os::arg(which, &mut name);
-    let fd = os::open_read(&name[..letters]);
-    if fd < 0 {
-        os::fail(&name[..letters]);
+// The same file open for reading once more; none, with words, where it can't be.
+pub fn open_again(rt: &HostRuntime, which: usize) -> Option<File> {
+    let mut name = [0u8; NAME];
+    let letters = put_argument(rt, which, &mut name);
+    match open_named(rt, &name[..letters]) {
+        Ok(file) => Some(file),
+        Err(error) => {
+            say_failed(rt, &name[..letters], error);
+            None
+        }
     }
-    fd
 }

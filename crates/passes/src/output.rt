@@ -1,21 +1,23 @@
 ghost use Rattle.std.specs.Prelude.{◌≤◌, length};
 
-use libc::STDOUT_FILENO;
+use crate::words::say_failed;
 use listing::lines::{LINE, put_refused};
 
 // The first n bytes; false, with words, where they can't be written.
-pub fn write(out: &[u8], n: usize) -> bool
+pub fn write(rt: &HostRuntime, out: &[u8], n: usize) -> bool
     requires { n ≤ length out.now }
 {
-    if io::write_all(STDOUT_FILENO, &out[0..n]) {
-        return true;
+    match rt.write_all(&out[0..n]) {
+        Ok(()) => true,
+        Err(error) => {
+            say_failed(rt, b"standard output", error);
+            false
+        }
     }
-    os::fail(b"standard output");
-    false
 }
 
-pub fn write_refused(number: u32) {
+pub fn write_refused(rt: &HostRuntime, number: u32) {
     let mut out = [0u8; LINE];
     let n = put_refused(number, 0, &mut out);
-    write(&out, n);
+    write(rt, &out, n);
 }

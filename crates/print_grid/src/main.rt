@@ -4,6 +4,8 @@
 //     X Y ROW COL SAD           a line for each cell, row by row
 //
 // or `refused NUMBER` where the run is refused.
+#![tactic(auto)]
+
 use inter::calls::lockdapple_frame_run;
 use print::{grid, labelled, text};
 
@@ -22,7 +24,7 @@ const HALF: usize = 4 + 2 * 40;
 
 const QUARTER: usize = 2 + 2 * 20;
 
-fn main() {
+fn main(rt: HostRuntime) {
     let full = [90u8; FULL * FULL];
     let half = [90u8; HALF * HALF];
     let quarter = [90u8; QUARTER * QUARTER];
@@ -37,9 +39,9 @@ fn main() {
         &list, &mut rows, &mut cols, &mut sads,
     );
     if code != 0 {
-        labelled(b"refused ", code as u64);
-        text(b"\n");
+        labelled(&rt, b"refused ", code as u64);
+        text(&rt, b"\n");
         return;
     }
-    grid(ACROSS, CELLS, &rows, &cols, &sads);
+    grid(&rt, ACROSS, CELLS, &rows, &cols, &sads);
 }

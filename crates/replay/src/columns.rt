@@ -8,7 +8,7 @@ pub(crate) const COLUMNS: usize = 16;
 
 // What the proved code is asked: a kind of call, a block, the content of the planes, and a vector, which a refinement
 // finds stored. Of a frame the block is a cell, and `refined` is whether there is a previous grid.
-#[derive(Drop)]
+#[derive(Clone, Copy)]
 pub(crate) struct Call {
     pub(crate) kind: usize,
     pub(crate) width: usize,

@@ -7,6 +7,8 @@
 //     cannot read FILE          instead of the file's other lines
 //     equal EQUAL of READ       the last line: the cases of all files
 //     expected files of answers: replay FILE..
+#![tactic(auto)]
+
 mod blocks;
 mod cases;
 mod columns;
@@ -19,14 +21,15 @@ mod report;
 mod sample;
 mod tally;
 
-ghost use Rattle.std.specs.Prelude.{◌<◌, ◌^◌};
-ghost use Rattle.io.specs.Counts.{IsPrefixLen};
+ghost use Rattle.std.specs.Prelude.{◌≤◌, ◌<◌, ◌^◌, length};
 ghost use Rattle.replay.specs.Tally.{Within};
 
 use crate::lines::replayed;
 use crate::planes::SAMPLES;
 use crate::report::{cannot_read, equal_of, report};
 use crate::tally::Tally;
+use given::arguments::{NAME, argument_count, put_argument};
+use given::files::{open_named, read_full};
 use print::text;
 
 // No file of cases is as long as this.
@@ -37,19 +40,18 @@ const ARGUMENTS: usize = 0x7fff_ffff;
 
 // A file's bytes and how many they are, none where it cannot be read: a failed read gives no byte, and a full buffer may
 // be a part of the file.
-fn read(name: &[u8], file: &mut [u8]) -> usize
-    ensures { IsPrefixLen result file.new × (result < 16384) }
+fn read(rt: &HostRuntime, name: &[u8], file: &mut [u8]) -> usize
+    ensures { (result ≤ length file.new) × (result < 16384) }
 {
-    let fd = os::open_read(name);
-    if fd < 0 {
+    let Ok(mut opened) = open_named(rt, name) else {
         return 0;
-    }
-    let n = io::read_full(fd, file);
-    libc::close(fd);
+    };
+    let n = read_full(&mut opened, file);
     if n < TOO_LONG { n } else { 0 }
 }
 
 fn replay(
+    rt: &HostRuntime,
     name: &[u8],
     file: &mut [u8],
     cur: &mut [u8; SAMPLES],
@@ -57,18 +59,19 @@ fn replay(
 ) -> Tally
     ensures { Within result (2 ^ 16) }
 {
-    let n = read(name, file);
+    let n = read(rt, name, file);
     if n == 0 {
-        cannot_read(name);
+        cannot_read(rt, name);
         return Tally::new();
     }
     let tally = replayed(&file[..n], cur, reference);
-    report(name, tally);
+    report(rt, name, tally);
     tally
 }
 
 // Replays the file that an argument names.
 fn replay_named(
+    rt: &HostRuntime,
     which: usize,
     file: &mut [u8],
     cur: &mut [u8; SAMPLES],
@@ -76,34 +79,39 @@ fn replay_named(
 ) -> Tally
     ensures { Within result (2 ^ 16) }
 {
-    let mut name = io::buffer();
-    let letters = os::arg(which, &mut name);
-    replay(&name[..letters], file, cur, reference)
+    let mut name = [0u8; NAME];
+    let letters = put_argument(rt, which, &mut name);
+    replay(rt, &name[..letters], file, cur, reference)
 }
 
-fn replay_all(file: &mut [u8; TOO_LONG], cur: &mut [u8; SAMPLES], reference: &mut [u8; SAMPLES]) {
-    let count = os::arg_count();
+fn replay_all(
+    rt: &HostRuntime,
+    file: &mut [u8; TOO_LONG],
+    cur: &mut [u8; SAMPLES],
+    reference: &mut [u8; SAMPLES],
+) {
+    let count = argument_count(rt);
     let mut all = Tally::new();
     let mut which = 1;
     while which < count {
         if which > ARGUMENTS {
             break;
         }
-        all = all.plus(replay_named(which, file, cur, reference));
+        all = all.plus(replay_named(rt, which, file, cur, reference));
         which += 1;
     }
-    equal_of(b"equal", all);
+    equal_of(rt, b"equal", all);
 }
 
 // The file and the planes are lent from here: compiled, the prologue of so large a frame can spoil a register that a
 // test before it set, and nothing comes before this one.
-fn main() {
-    if os::arg_count() < 2 {
-        text(b"expected files of answers: replay FILE..\n");
+fn main(rt: HostRuntime) {
+    if argument_count(&rt) < 2 {
+        text(&rt, b"expected files of answers: replay FILE..\n");
         return;
     }
     let mut file = [0u8; TOO_LONG];
     let mut cur = [0u8; SAMPLES];
     let mut reference = [0u8; SAMPLES];
-    replay_all(&mut file, &mut cur, &mut reference);
+    replay_all(&rt, &mut file, &mut cur, &mut reference);
 }

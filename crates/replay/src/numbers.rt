@@ -6,7 +6,7 @@ use motion::rate::magnitude;
 const RAISED: usize = 32768;
 
 // A number of a line, and where the next one starts, or 0 where there is no number.
-#[derive(Drop)]
+#[derive(Clone, Copy)]
 pub(crate) struct Number {
     pub(crate) value: usize,
     pub(crate) next: usize,

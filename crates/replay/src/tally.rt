@@ -2,7 +2,7 @@ ghost use Rattle.std.specs.Prelude.{◌+◌, ◌^◌};
 ghost use Rattle.replay.specs.Tally.{Within};
 
 // What became of a line.
-#[derive(Drop)]
+#[derive(Clone, Copy)]
 pub(crate) enum Outcome {
     Comment,
     Malformed,
@@ -12,7 +12,7 @@ pub(crate) enum Outcome {
 
 // The lines passed, the cases among them, how many came out equal, and the first line that is malformed and that
 // differs, or 0.
-#[derive(Drop)]
+#[derive(Clone, Copy)]
 pub(crate) struct Tally {
     pub(crate) lines: u64,
     pub(crate) read: u64,

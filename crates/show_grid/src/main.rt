@@ -7,27 +7,30 @@
 // Standard error says in words what a refusal means, that the file could not be read or changed, and that a line could not be
 // written; after such words the listing is not whole. The file is gone through twice, some bytes at a time: to check it, and for
 // its cells. So a grid of any size takes the same memory.
+#![tactic(auto)]
+
 mod lines;
 
+use given::arguments::argument_count;
 use lines::show;
 use passes::files::check_named;
 use passes::output::write_refused;
 use passes::words::{say, say_meaning};
 
-fn main() {
-    if os::arg_count() != 2 {
-        say(b"expected a grid file: show_grid FILE\n");
+fn main(rt: HostRuntime) {
+    if argument_count(&rt) != 2 {
+        say(&rt, b"expected a grid file: show_grid FILE\n");
         return;
     }
-    let file = check_named(1);
+    let file = check_named(&rt, 1);
     if !file.read {
         return;
     }
     let code = file.shape.code;
     if code != 0 {
-        write_refused(code);
-        say_meaning(1, code);
+        write_refused(&rt, code);
+        say_meaning(&rt, 1, code);
         return;
     }
-    show(file);
+    show(&rt, file);
 }
