@@ -1,5 +1,5 @@
 -- Request Five: the stop threshold and the one that the Rust holds give the same yes or no, so that no grid changes by it.
-use Rattle.std.specs.Prelude.{◌≡◌, ℕ, ◌+◌, ◌*◌, ◌/◌, ◌≤◌, ltb}
+use Rattle.std.specs.Prelude.{◌≡◌, ℕ, ◌*◌, ◌≤◌, ltb}
 use Rattle.motion.specs.declared.block.Block.{Block}
 use Rattle.motion.specs.Level.{level_of}
 use Rattle.motion.specs.Block.{block_of}
