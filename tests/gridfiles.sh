@@ -6,6 +6,9 @@ trap 'rm -rf "$dir"' EXIT
 cases=0
 . tools/crates.sh
 
+# Proves and builds the program before the first case, so that no case has the words of that on standard error.
+words=$(tools/run "$program" 2>&1 >/dev/null) || [ $? = 2 ] || { echo "$words" >&2; exit 1; }
+
 # hex BYTE..: bytes as printf's %b reads them.
 hex() { printf '\\x%02x' "$@"; }
 

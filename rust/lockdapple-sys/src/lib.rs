@@ -5,9 +5,8 @@
 //! No function asks anything of its caller, and slices that are written overlap no
 //! other, so every call is safe. A buffer's length is that of its slice.
 //!
-//! An answer of more than 16 bytes is written through a pointer that is passed first,
-//! and a parameter of more stands on the stack. That is how x86-64 has it, and
-//! tools/hostlib keeps it elsewhere.
+//! The libraries are for x86-64. An answer of more than 16 bytes is written through a
+//! pointer that is passed first, and a parameter of more stands on the stack.
 
 #[cfg(feature = "inter")]
 mod block;
