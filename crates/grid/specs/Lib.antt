@@ -2,3 +2,4 @@
 pub mod Grid
 pub mod Previous
 pub mod Save
+pub mod Lent

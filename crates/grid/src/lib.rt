@@ -2,4 +2,5 @@
 #![tactic(auto)]
 
 pub mod cells;
+pub mod lent;
 pub mod save;

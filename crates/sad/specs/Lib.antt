@@ -2,5 +2,6 @@
 pub mod Sad
 pub mod Plane
 pub mod Cost
+pub mod Planes
 -- what inner functions ask, and no reader need believe
 pub mod Asked

@@ -2,5 +2,6 @@
 #![tactic(auto)]
 
 pub mod plane;
+pub mod planes;
 pub mod rd;
 pub mod sad;

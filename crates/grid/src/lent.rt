@@ -1,0 +1,116 @@
+ghost use Rattle.std.specs.Prelude.{◌≡◌, ◌<◌, length};
+ghost use Rattle.motion.specs.Limits.{largest_side, cell_side};
+ghost use Rattle.grid.specs.Grid.{Held, room, stored_at, stats_at, with_cell};
+ghost use Rattle.grid.specs.Save.{save_block};
+ghost use Rattle.grid.specs.Lent.{lent, lent_mut, SameBuffers};
+ghost use Rattle.std.specs.Prelude.{◌≤◌, ◌/◌};
+
+use crate::cells::MEStats;
+use crate::save::save_me_stats;
+use motion::vector::MotionVector;
+
+// A grid lent to be read: its three buffers.
+#[derive(Clone, Copy)]
+pub struct GridRef<'a> {
+    pub rows: &'a [i16],
+    pub cols: &'a [i16],
+    pub sads: &'a [u32],
+}
+
+impl GridRef<'_> {
+    // How many cells the shortest of its buffers has.
+    pub fn room(&self) -> usize
+        ensures { result ≡ room (lent self.now) }
+    {
+        self.rows.len().min(self.cols.len().min(self.sads.len()))
+    }
+
+    // The vector stored in a cell.
+    pub fn stored_at(&self, i: usize) -> MotionVector
+        requires { (i < length self.now.rows.now) × (i < length self.now.cols.now) }
+        ensures { result ≡ stored_at self.now.rows.now self.now.cols.now i }
+    {
+        MotionVector {
+            row: self.rows[i],
+            col: self.cols[i],
+        }
+    }
+
+    // All that a cell holds.
+    pub fn stats_at(&self, i: usize) -> MEStats
+        requires { (i < length self.now.rows.now) × (i < length self.now.cols.now) × (i < length self.now.sads.now) }
+        ensures { result ≡ stats_at (lent self.now) i }
+    {
+        MEStats {
+            mv: self.stored_at(i),
+            normalized_sad: self.sads[i],
+        }
+    }
+}
+
+// A grid lent to be written.
+#[derive(Drop)]
+pub struct GridMut<'a> {
+    pub rows: &'a mut [i16],
+    pub cols: &'a mut [i16],
+    pub sads: &'a mut [u32],
+}
+
+impl GridMut<'_> {
+    // The same grid, to be read.
+    pub fn read(&self) -> GridRef<'_>
+        ensures { lent result ≡ lent_mut self.now }
+    {
+        GridRef {
+            rows: &*self.rows,
+            cols: &*self.cols,
+            sads: &*self.sads,
+        }
+    }
+
+    // How many cells the shortest of its buffers has.
+    pub fn room(&self) -> usize
+        ensures { result ≡ room (lent_mut self.now) }
+    {
+        self.read().room()
+    }
+
+    // One result in one cell.
+    pub fn save_cell(&mut self, i: usize, stats: MEStats)
+        requires { (i < length self.old.rows.now) × (i < length self.old.cols.now) × (i < length self.old.sads.now) }
+        ensures saved { lent_mut self.new ≡ with_cell i stats (lent_mut self.old) }
+        ensures same { SameBuffers self.old self.new }
+    {
+        self.rows[i] = stats.mv.row;
+        self.cols[i] = stats.mv.col;
+        self.sads[i] = stats.normalized_sad;
+    }
+
+    // One result over the cells of a block, cropped at the frame.
+    pub fn save_me_stats(
+        &mut self,
+        width: usize,
+        height: usize,
+        mv_size: usize,
+        bx: usize,
+        by: usize,
+        stats: MEStats,
+    )
+        requires width_le_largest_side { (width ≤ largest_side) × (height ≤ largest_side) × (mv_size ≤ largest_side) × (bx < width / cell_side) × (by < height / cell_side) }
+        requires held { Held width height (lent_mut self.old) }
+        ensures saved { lent_mut self.new ≡ save_block width height mv_size bx by stats (lent_mut self.old) }
+        ensures same { SameBuffers self.old self.new }
+    {
+        save_me_stats(
+            width,
+            height,
+            mv_size,
+            bx,
+            by,
+            stats,
+            &mut *self.rows,
+            &mut *self.cols,
+            &mut *self.sads,
+        );
+    }
+}
