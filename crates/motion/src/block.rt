@@ -7,7 +7,7 @@ use crate::limits::CELL_SIDE;
 use crate::range::{MvRange, get_mv_range};
 
 // How a plane of a level lies in its slice.
-#[derive(Clone, Copy)]
+#[derive(Clone, Copy, PartialEq, Eq, Debug)]
 pub struct Plane {
     pub stride: usize,
     pub rows: usize,
@@ -15,7 +15,7 @@ pub struct Plane {
 }
 
 // A block at a level's shift: where it stands in the frame and its plane, its size, its vectors, and what their rate weighs.
-#[derive(Clone, Copy)]
+#[derive(Clone, Copy, PartialEq, Eq, Debug)]
 pub struct Block {
     pub po_x: usize,
     pub po_y: usize,

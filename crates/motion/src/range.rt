@@ -7,7 +7,7 @@ use crate::limits::VECTOR_LIMIT;
 use crate::vector::MotionVector;
 
 // The vectors that a block may take, both ends included.
-#[derive(Clone, Copy)]
+#[derive(Clone, Copy, PartialEq, Eq, Debug)]
 pub struct MvRange {
     pub mvx_min: i16,
     pub mvx_max: i16,

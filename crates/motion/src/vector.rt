@@ -5,7 +5,7 @@ use crate::limits::EIGHTHS;
 
 // A motion vector, in eighths of a pixel.
 #[repr(C)]
-#[derive(Clone, Copy)]
+#[derive(Clone, Copy, PartialEq, Eq, Debug)]
 pub struct MotionVector {
     pub row: i16,
     pub col: i16,

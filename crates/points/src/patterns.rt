@@ -66,7 +66,7 @@ const VERTICAL_LINE: [MotionVector; 2] = [
 ];
 
 // The patterns that a stage goes through in turn; a diamond with the log of its radius.
-#[derive(Clone, Copy)]
+#[derive(Clone, Copy, PartialEq, Eq, Debug)]
 pub enum Pattern {
     Diamond(u32),
     Square,

@@ -8,14 +8,14 @@ use motion::range::MvRange;
 use motion::vector::MotionVector;
 
 // So many whole pixels of one axis, from the first.
-#[derive(Clone, Copy)]
+#[derive(Clone, Copy, PartialEq, Eq, Debug)]
 pub struct Span {
     pub lo: i16,
     pub count: usize,
 }
 
 // The offsets that a full search tries.
-#[derive(Clone, Copy)]
+#[derive(Clone, Copy, PartialEq, Eq, Debug)]
 pub struct Window {
     pub rows: Span,
     pub cols: Span,
