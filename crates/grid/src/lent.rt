@@ -1,9 +1,9 @@
-ghost use Rattle.std.specs.Prelude.{◌≡◌, ◌<◌, length};
+ghost use Rattle.std.specs.Prelude.{◌≡◌, ◌/◌, ◌≤◌, ◌<◌, length};
 ghost use Rattle.motion.specs.Limits.{largest_side, cell_side};
-ghost use Rattle.grid.specs.Grid.{Held, room, stored_at, stats_at, with_cell};
+ghost use Rattle.grid.specs.Grid.{Held, grid_of, room, stored_at, stats_at, with_cell};
 ghost use Rattle.grid.specs.Save.{save_block};
-ghost use Rattle.grid.specs.Lent.{lent, lent_mut, SameBuffers};
-ghost use Rattle.std.specs.Prelude.{◌≤◌, ◌/◌};
+ghost use Rattle.grid.specs.Previous.{previous};
+ghost use Rattle.grid.specs.Lent.{lent, lent_mut, SameBuffers, previous_lent, SamePrevious};
 
 use crate::cells::MEStats;
 use crate::save::save_me_stats;
@@ -112,5 +112,21 @@ impl GridMut<'_> {
             &mut *self.cols,
             &mut *self.sads,
         );
+    }
+}
+
+// The previous grid that a C call means, whose `present` is 0 for an absent one.
+pub fn previous<'a>(
+    present: usize,
+    rows: &'a [i16],
+    cols: &'a [i16],
+    sads: &'a [u32],
+) -> Option<GridRef<'a>>
+    ensures { SamePrevious (previous_lent result) (previous present (grid_of rows.now cols.now sads.now)) }
+{
+    if present == 0 {
+        None
+    } else {
+        Some(GridRef { rows, cols, sads })
     }
 }
