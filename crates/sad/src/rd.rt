@@ -1,16 +1,16 @@
-ghost use Rattle.std.specs.Prelude.{◌≡◌, ◌*◌, length};
+ghost use Rattle.std.specs.Prelude.{◌≡◌, ◌*◌};
 ghost use Rattle.motion.specs.Rate.{rate_v};
-ghost use Rattle.sad.specs.Asked.{Lies};
-ghost use Rattle.sad.specs.Cost.{empty_rd, rd_of, rd_at, sad_limit};
+ghost use Rattle.sad.specs.Cost.{empty_rd, rd_of, sad_limit};
+ghost use Rattle.sad.specs.Planes.{rd_in};
 
 use crate::plane::{org_start, ref_start};
+use crate::planes::BlockPlanes;
 use crate::sad::get_sad;
-use motion::block::Block;
 use motion::rate::get_mv_rate;
 use motion::vector::MotionVector;
 
 // The cost of a candidate, with its sum of absolute differences.
-#[derive(Clone, Copy)]
+#[derive(Clone, Copy, PartialEq, Eq, Debug)]
 pub struct MVCandidateRD {
     pub cost: u64,
     pub sad: u32,
@@ -22,8 +22,8 @@ impl MVCandidateRD {
         ensures { result ≡ empty_rd }
     {
         MVCandidateRD {
-            cost: 0xffff_ffff_ffff_ffff,
-            sad: 0xffff_ffff,
+            cost: u64::MAX,
+            sad: u32::MAX,
         }
     }
 }
@@ -58,20 +58,15 @@ pub fn sad_limit(cost: u64, rate: u64) -> u64
 }
 
 // The cost of moving a block by a vector, in range or not.
-pub fn get_fullpel_mv_rd(
-    b: Block,
-    cur: &[u8],
-    reference: &[u8],
-    cand_mv: MotionVector,
-) -> MVCandidateRD
-    requires { Lies b (length cur.now) × Lies b (length reference.now) }
-    ensures { result ≡ rd_at b cur.now reference.now cand_mv }
+pub fn get_fullpel_mv_rd(p: &BlockPlanes<'_>, cand_mv: MotionVector) -> MVCandidateRD
+    ensures { result ≡ rd_in p.now cand_mv }
 {
+    let b = p.block;
     if !b.range.holds(cand_mv) {
         return MVCandidateRD::empty();
     }
     let src = org_start(b);
     let dst = ref_start(b, cand_mv);
-    let sad = get_sad(cur, src, reference, dst, b.stride, b.w, b.h);
+    let sad = get_sad(p.cur, src, p.reference, dst, b.stride, b.w, b.h);
     compute_mv_rd(b.weight, sad, cand_mv)
 }
