@@ -1,4 +1,4 @@
-ghost use Rattle.std.specs.Prelude.{◌≤◌, length};
+ghost use Rattle.std.specs.Prelude.{◌≤◌, length, MatchOption};
 
 use std::env::FillError;
 use std::rt::Env;
@@ -7,30 +7,20 @@ use std::rt::Env;
 pub const NAME: usize = 4096;
 
 fn is_argument(rt: &impl Env, which: usize) -> bool {
-    let mut letter = [0u8; 1];
-    match rt.arg(which, &mut letter) {
-        Err(FillError::NotPresent) => false,
-        _ => true,
-    }
+    !matches!(rt.arg(which, &mut [0u8; 1]), Err(FillError::NotPresent))
 }
 
 // How many arguments the program was started with, its own name among them.
 pub fn argument_count(rt: &impl Env) -> usize {
-    for which in 0..usize::MAX {
-        if !is_argument(rt, which) {
-            return which;
-        }
-    }
-    usize::MAX
+    (0..usize::MAX)
+        .find(|which| !is_argument(rt, *which))
+        .unwrap_or(usize::MAX)
 }
 
-// Puts an argument's bytes at the start of a buffer and says how many they are: none where there is no such argument or no
-// room for it.
-pub fn put_argument(rt: &impl Env, which: usize, name: &mut [u8]) -> usize
-    ensures { result ≤ length name.new }
+// An argument's bytes, in the room lent for them: none where there is no such argument or no room for it.
+pub fn argument<'a>(rt: &impl Env, which: usize, room: &'a mut [u8]) -> Option<&'a [u8]>
+    ensures { MatchOption result (Unit {0}) (λ name. length name.now ≤ length room.old) }
 {
-    match rt.arg(which, name) {
-        Ok(letters) => letters,
-        Err(_) => 0,
-    }
+    let letters = rt.arg(which, room).ok()?;
+    Some(&room[..letters])
 }

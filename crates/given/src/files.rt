@@ -7,10 +7,8 @@ use std::rt::Files;
 
 // The file of that name, open for reading. std opens names that are UTF-8.
 pub fn open_named<R: Files>(rt: &R, name: &[u8]) -> io::Result<R::File> {
-    match str::from_utf8(name) {
-        Ok(path) => File::open(rt, path),
-        Err(_) => Err(Error::from(ErrorKind::InvalidFilename)),
-    }
+    let path = str::from_utf8(name).map_err(|_| Error::from(ErrorKind::InvalidFilename))?;
+    File::open(rt, path)
 }
 
 // Reads until the buffer is full, the file ends or a read fails, and says how many bytes stand at the buffer's start.
@@ -19,10 +17,7 @@ pub fn read_full(file: &mut impl Read, buffer: &mut [u8]) -> usize
 {
     let mut done = 0;
     while done < buffer.len() {
-        let n = match file.read(&mut buffer[done..]) {
-            Ok(n) => n,
-            Err(_) => 0,
-        };
+        let n = file.read(&mut buffer[done..]).unwrap_or(0);
         if n == 0 {
             break;
         }
