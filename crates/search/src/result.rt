@@ -1,19 +1,18 @@
-ghost use Rattle.std.specs.Prelude.{◌≡◌, length};
+ghost use Rattle.std.specs.Prelude.{◌≡◌};
 ghost use Rattle.motion.specs.Asked.{Near};
-ghost use Rattle.sad.specs.Asked.{Lies};
-ghost use Rattle.sad.specs.Cost.{rd_at};
+ghost use Rattle.sad.specs.Planes.{rd_in};
 ghost use Rattle.points.specs.Asked.{Plain};
 ghost use Rattle.search.specs.Result.{empty_result, measured, cheaper, try_one, try_pattern};
 
-use motion::block::Block;
 use motion::vector::MotionVector;
 use points::patterns::{Pattern, pattern_point, pattern_points};
 use sad::plane::{org_start, ref_start};
+use sad::planes::BlockPlanes;
 use sad::rd::{MVCandidateRD, get_fullpel_mv_rd, rate_part, sad_limit};
 use sad::sad::get_sad_below;
 
 // The best vector so far, with its cost and sum of absolute differences.
-#[derive(Clone, Copy)]
+#[derive(Clone, Copy, PartialEq, Eq, Debug)]
 pub struct MotionSearchResult {
     pub mv: MotionVector,
     pub rd: MVCandidateRD,
@@ -31,13 +30,12 @@ impl MotionSearchResult {
     }
 
     // A vector with its own sum and cost.
-    pub fn measured(b: Block, cur: &[u8], reference: &[u8], mv: MotionVector) -> MotionSearchResult
-        requires { Lies b (length cur.now) × Lies b (length reference.now) }
-        ensures { result ≡ measured (rd_at b cur.now reference.now) mv }
+    pub fn measured(p: &BlockPlanes<'_>, mv: MotionVector) -> MotionSearchResult
+        ensures { result ≡ measured (rd_in p.now) mv }
     {
         MotionSearchResult {
             mv,
-            rd: get_fullpel_mv_rd(b, cur, reference, mv),
+            rd: get_fullpel_mv_rd(p, mv),
         }
     }
 
@@ -53,28 +51,22 @@ impl MotionSearchResult {
     }
 
     // Tries a candidate. It is measured here, where the sum comes back in a register and no record through memory.
-    pub fn try_mv(
-        self,
-        b: Block,
-        cur: &[u8],
-        reference: &[u8],
-        cand_mv: MotionVector,
-    ) -> MotionSearchResult
-        requires { Lies b (length cur.now) × Lies b (length reference.now) }
-        ensures { result ≡ try_one (rd_at b cur.now reference.now) self cand_mv }
+    pub fn try_mv(self, p: &BlockPlanes<'_>, cand_mv: MotionVector) -> MotionSearchResult
+        ensures { result ≡ try_one (rd_in p.now) self cand_mv }
     {
+        let b = p.block;
         // Out of range it costs the most, and the most is never cheaper.
         if !b.range.holds(cand_mv) {
             return self;
         }
-        let rate = rate_part(b.weight, cand_mv);
+        let rate = rate_part(p.block.weight, cand_mv);
         let limit = sad_limit(self.rd.cost, rate);
         if limit == 0 {
             return self;
         }
         let src = org_start(b);
         let dst = ref_start(b, cand_mv);
-        let sad = get_sad_below(cur, src, reference, dst, b.stride, b.w, b.h, limit);
+        let sad = get_sad_below(p.cur, src, p.reference, dst, b.stride, b.w, b.h, limit);
         // With the limit for its sum it is no cheaper.
         let rd = MVCandidateRD {
             cost: 256 * sad as u64 + rate,
@@ -86,24 +78,17 @@ impl MotionSearchResult {
 
 // Tries every point of a pattern round a centre that stays.
 pub(crate) fn try_pattern(
-    b: Block,
-    cur: &[u8],
-    reference: &[u8],
+    p: &BlockPlanes<'_>,
     pattern: Pattern,
     center: MotionVector,
     current: MotionSearchResult,
 ) -> MotionSearchResult
-    requires lies { Lies b (length cur.now) × Lies b (length reference.now) }
-    requires plain { Plain pattern × Near center }
-    ensures { result ≡ try_pattern (rd_at b cur.now reference.now) current pattern center }
+    requires { Plain pattern × Near center }
+    ensures { result ≡ try_pattern (rd_in p.now) current pattern center }
 {
-    let n = pattern_points(pattern);
     let mut best = current;
-    let mut i = 0;
-    while i < n {
-        let cand_mv = pattern_point(pattern, center, i);
-        best = best.try_mv(b, cur, reference, cand_mv);
-        i += 1;
+    for i in 0..pattern_points(pattern) {
+        best = best.try_mv(p, pattern_point(pattern, center, i));
     }
     best
 }

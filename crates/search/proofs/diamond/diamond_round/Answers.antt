@@ -2,7 +2,7 @@
 use mathlib.Core.Path.{sym, ap₂, ◌∙◌}
 use native.Mathlib.Omega.{arith}
 use Rattle.motion.specs.declared.vector.MotionVector.{MotionVector}
-use Rattle.sad.specs.Cost.{rd_at}
+use Rattle.sad.specs.Planes.{rd_in}
 use Rattle.points.specs.declared.patterns.Pattern.TheVariants.{Diamond}
 use Rattle.points.specs.Patterns.{points, point_of}
 use Rattle.points.specs.Asked.{Plain}
@@ -14,25 +14,25 @@ use Rattle.search.proofs.diamond.diamond_round.Goals as goal
 
 pub pattern_point-down-requires : goal.pattern_point-down-requires
 unfolding Plain points
-pattern_point-down-requires c = (c.requires.radius_log2_bound.0, omega arith, c.requires.radius_log2_bound.1)
+pattern_point-down-requires c = (c.requires.0, omega arith, c.requires.1)
 
 pub pattern_point-right-requires : goal.pattern_point-right-requires
 unfolding Plain points
-pattern_point-right-requires c = (c.requires.radius_log2_bound.0, omega arith, c.requires.radius_log2_bound.1)
+pattern_point-right-requires c = (c.requires.0, omega arith, c.requires.1)
 
 pub pattern_point-up-requires : goal.pattern_point-up-requires
 unfolding Plain points
-pattern_point-up-requires c = (c.requires.radius_log2_bound.0, omega arith, c.requires.radius_log2_bound.1)
+pattern_point-up-requires c = (c.requires.0, omega arith, c.requires.1)
 
 pub pattern_point-left-requires : goal.pattern_point-left-requires
 unfolding Plain points
-pattern_point-left-requires c = (c.requires.radius_log2_bound.0, omega arith, c.requires.radius_log2_bound.1)
+pattern_point-left-requires c = (c.requires.0, omega arith, c.requires.1)
 
 pub returns : goal.returns
 unfolding diamond_best try_pattern points
 returns c =
     let a = c.args in
-    let rd = rd_at a.b a.cur.now a.reference.now in
+    let rd = rd_in a.p.now in
     let one : MotionSearchResult → MotionVector → MotionSearchResult = try_one rd in
     let first = c.try_mv-first.ensures ∙ ap₂ one c.empty-empty.ensures c.pattern_point-down.ensures in
     let second = c.try_mv-second.ensures ∙ ap₂ one first c.pattern_point-right.ensures in

@@ -2,7 +2,7 @@
 use mathlib.Core.Path.{◌≡◌, sym, ap, subst, ◌∙◌}
 use Prim.Native.Nat.{ℕ, suc, ◌-◌, ◌<◌}
 use native.Mathlib.Omega.{arith}
-use Rattle.sad.specs.Cost.{rd_at}
+use Rattle.sad.specs.Planes.{rd_in}
 use Rattle.search.specs.declared.result.MotionSearchResult.{MotionSearchResult}
 use Rattle.search.specs.Diamond.{diamond_best, diamond_at, diamond}
 use Rattle.search.proofs.ResultLaws.{Kept}
@@ -14,13 +14,13 @@ pub loop-current-preserved-then-best_cand-current : goal.loop-current-preserved-
 loop-current-preserved-then-best_cand-current c =
     let turn = c.loop-current in
     let a = c.args in
-    let rd = rd_at a.b a.cur.now a.reference.now in
-    let kept = ranged a.b a.cur.now a.reference.now in
+    let rd = rd_in a.p.now in
+    let kept = ranged a.p.now.block a.p.now.cur.now a.p.now.reference.now in
     let r = turn.diamond_radius_log2 in
     let round = c.diamond_round-best_cand.ensures in
     let less : (diamond_best rd r turn.current.mv).rd.cost < turn.current.rd.cost = omega (arith, c.if-best_cand-current.true, ap (λ (m : MotionSearchResult). m.rd.cost) round) in (
       turn.invariant.0,
-      subst (Kept rd (Ranged a.b) kept) (sym round) (kept_move rd (Ranged a.b) kept r turn.current turn.invariant.1 less),
+      subst (Kept rd (Ranged a.p.now.block) kept) (sym round) (kept_move rd (Ranged a.p.now.block) kept r turn.current turn.invariant.1 less),
       ap (diamond_at rd r) round ∙ sym (diamond-moves rd r turn.current less) ∙ turn.invariant.2,
     )
 
@@ -28,7 +28,7 @@ pub loop-current-preserved : goal.loop-current-preserved
 loop-current-preserved c =
     let turn = c.loop-current in
     let a = c.args in
-    let rd = rd_at a.b a.cur.now a.reference.now in
+    let rd = rd_in a.p.now in
     let r = turn.diamond_radius_log2 in
     let more : r ≡ suc (r - 1) = omega arith in
     let round = ap (λ (m : MotionSearchResult). m.rd.cost) (c.diamond_round-best_cand.ensures ∙ ap (λ (n : ℕ). diamond_best rd n turn.current.mv) more) in (
@@ -43,7 +43,7 @@ unfolding diamond
 returns c =
     let turn = c.loop-current in
     let a = c.args in
-    let rd = rd_at a.b a.cur.now a.reference.now in
+    let rd = rd_in a.p.now in
     let last = c.if-diamond_radius_log2-eq0.true in
     let round = ap (λ (m : MotionSearchResult). m.rd.cost) (c.diamond_round-best_cand.ensures ∙ ap (λ (n : ℕ). diamond_best rd n turn.current.mv) last) in
     sym (diamond-stops rd turn.current (omega (arith, c.if-best_cand-current.false, round))) ∙ ap (λ (n : ℕ). diamond_at rd n turn.current) (sym last) ∙ turn.invariant.2

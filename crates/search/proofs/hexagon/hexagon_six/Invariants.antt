@@ -1,12 +1,7 @@
 use mathlib.Core.Path.{◌≡◌}
-use Prim.Native.Nat.{◌-◌, ◌≤◌}
-use Rattle.sad.specs.Cost.{rd_at}
+use Rattle.sad.specs.Planes.{rd_in}
 use Rattle.search.specs.Hexagon.{tried_to}
 use Rattle.search.proofs.hexagon.hexagon_six.Given as goal
 
 abbrev pub invariant-loop-i : goal.invariant-loop-i
-invariant-loop-i l =
-    (l.i ≤ 6) × (l.cand ≡ tried_to (rd_at l.b l.cur l.reference) l.center l.i)
-
-abbrev pub decreases-loop-i : goal.decreases-loop-i
-decreases-loop-i l = 6 - l.i
+invariant-loop-i l = l.cand ≡ tried_to (rd_in l.p) l.center l.i

@@ -1,7 +1,7 @@
 -- `search::hexagon::try_index` meets its contract: the point is taken exactly where the record gets cheaper by it.
 use mathlib.Core.Path.{◌≡◌, sym, ap, ◌∙◌}
 use native.Mathlib.Omega.{arith}
-use Rattle.sad.specs.Cost.{rd_at}
+use Rattle.sad.specs.Planes.{rd_in}
 use Rattle.points.specs.Patterns.{hexagon_point}
 use Rattle.search.specs.declared.result.MotionSearchResult.{MotionSearchResult}
 use Rattle.search.specs.Result.{CostOf, try_one}
@@ -11,7 +11,7 @@ use Rattle.search.proofs.hexagon.try_index.Goals.{Start, After-try_mv-best}
 use Rattle.search.proofs.hexagon.try_index.Goals as goal
 
 abbrev cost : Start → CostOf
-cost c = rd_at c.args.b c.args.cur.now c.args.reference.now
+cost c = rd_in c.args.p.now
 
 -- what trying the point leaves, as the definition names it
 tried : (c : After-try_mv-best) → c.try_mv-best.result ≡ try_one (cost (goal.at.After-try_mv-best c).Start) c.args.cand.best (hexagon_point c.args.center c.args.i)

@@ -3,9 +3,9 @@ use Rattle.points.specs.Asked.{Plain}
 use Rattle.search.specs.MultiHexagon.{rings}
 use Rattle.search.proofs.multi_hex.rings_search.Goals as goal
 
-pub try_pattern-requires-clause-plain : goal.try_pattern-requires-clause-plain
+pub try_pattern-requires : goal.try_pattern-requires
 unfolding Plain
-try_pattern-requires-clause-plain c = (tt, c.requires.near)
+try_pattern-requires c = (tt, c.requires)
 
 pub returns : goal.returns
 unfolding rings
