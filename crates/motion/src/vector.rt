@@ -2,6 +2,7 @@ ghost use Rattle.std.specs.Prelude.{◌≡◌, ◌<◌};
 ghost use Rattle.motion.specs.Vector.{FitsV, plus_v, times_v, shr_v, shl_v, fullpel_v, fullpel};
 
 use crate::limits::EIGHTHS;
+use std::ops::{Add, Mul, Shl, Shr};
 
 // A motion vector, in eighths of a pixel.
 #[repr(C)]
@@ -11,45 +12,95 @@ pub struct MotionVector {
     pub col: i16,
 }
 
+impl Add for MotionVector {
+    type Output = MotionVector;
+
+    ghost can_add = { λ a b. FitsV (plus_v a b) };
+
+    ghost add_gives = { λ a b r. r ≡ plus_v a b };
+
+    #[tactic(auto, unfolding(crate::specs::Vector::plus_v))]
+    fn add(self, rhs: MotionVector) -> MotionVector {
+        MotionVector {
+            row: self.row + rhs.row,
+            col: self.col + rhs.col,
+        }
+    }
+}
+
+impl Mul<i16> for MotionVector {
+    type Output = MotionVector;
+
+    ghost can_mul = { λ v n. FitsV (times_v v n) };
+
+    ghost mul_gives = { λ v n r. r ≡ times_v v n };
+
+    #[tactic(auto, unfolding(crate::specs::Vector::times_v))]
+    fn mul(self, rhs: i16) -> MotionVector {
+        MotionVector {
+            row: self.row * rhs,
+            col: self.col * rhs,
+        }
+    }
+}
+
+impl Shr<u32> for MotionVector {
+    type Output = MotionVector;
+
+    ghost can_shr = { λ _ s. s < 16 };
+
+    ghost shr_gives = { λ v s r. r ≡ shr_v v s };
+
+    fn shr(self, rhs: u32) -> MotionVector {
+        MotionVector {
+            row: self.row >> rhs,
+            col: self.col >> rhs,
+        }
+    }
+}
+
+impl Shl<u32> for MotionVector {
+    type Output = MotionVector;
+
+    ghost can_shl = { λ v s. (s < 16) × FitsV (shl_v v s) };
+
+    ghost shl_gives = { λ v s r. r ≡ shl_v v s };
+
+    fn shl(self, rhs: u32) -> MotionVector {
+        MotionVector {
+            row: self.row << rhs,
+            col: self.col << rhs,
+        }
+    }
+}
+
 impl MotionVector {
     pub fn plus(self, rhs: MotionVector) -> MotionVector
         requires { FitsV (plus_v self rhs) }
         ensures { result ≡ plus_v self rhs }
     {
-        MotionVector {
-            row: self.row + rhs.row,
-            col: self.col + rhs.col,
-        }
+        self + rhs
     }
 
     pub fn times(self, rhs: i16) -> MotionVector
         requires { FitsV (times_v self rhs) }
         ensures { result ≡ times_v self rhs }
     {
-        MotionVector {
-            row: self.row * rhs,
-            col: self.col * rhs,
-        }
+        self * rhs
     }
 
     pub fn shr(self, rhs: u32) -> MotionVector
         requires { rhs < 16 }
         ensures { result ≡ shr_v self rhs }
     {
-        MotionVector {
-            row: self.row >> rhs,
-            col: self.col >> rhs,
-        }
+        self >> rhs
     }
 
     pub fn shl(self, rhs: u32) -> MotionVector
         requires { (rhs < 16) × FitsV (shl_v self rhs) }
         ensures { result ≡ shl_v self rhs }
     {
-        MotionVector {
-            row: self.row << rhs,
-            col: self.col << rhs,
-        }
+        self << rhs
     }
 
     pub fn quantize_to_fullpel(self) -> MotionVector

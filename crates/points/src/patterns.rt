@@ -81,14 +81,14 @@ fn scaled(v: MotionVector, k: usize) -> MotionVector
     requires { Slight v × (k ≤ 24) }
     ensures { result ≡ times_v v (pos k) }
 {
-    v.times(k as i16)
+    v * k as i16
 }
 
 fn diamond_offset(i: usize, radius_log2: u32) -> MotionVector
     requires { (i < 4) × (radius_log2 ≤ 1) }
     ensures { result ≡ offset (Pattern.Diamond radius_log2) i }
 {
-    DIAMOND_R1_PATTERN[i].shl(radius_log2)
+    DIAMOND_R1_PATTERN[i] << radius_log2
 }
 
 fn square_offset(i: usize) -> MotionVector
@@ -169,7 +169,7 @@ pub fn pattern_point(pattern: Pattern, center: MotionVector, i: usize) -> Motion
     requires { Plain pattern × (i < points pattern) × Near center }
     ensures { result ≡ point_of pattern center i }
 {
-    center.plus(pattern_offset(pattern, i))
+    center + pattern_offset(pattern, i)
 }
 
 // Point i of the hexagon round a centre.
@@ -177,5 +177,5 @@ pub fn hexagon_point(center: MotionVector, i: usize) -> MotionVector
     requires { (i < 6) × Near center }
     ensures { result ≡ hexagon_point center i }
 {
-    center.plus(HEXAGON_PATTERN[i])
+    center + HEXAGON_PATTERN[i]
 }

@@ -5,9 +5,9 @@ use Rattle.points.specs.Patterns.{hexagon_point, hexagon_table}
 use Rattle.points.proofs.PatternLaws.{slight_at, slight_short}
 use Rattle.points.proofs.patterns.hexagon_point.Goals as goal
 
-pub plus-requires : goal.plus-requires
-plus-requires c = plus_fits c.args.center _ c.requires.1 (slight_short _ (slight_at hexagon_table refl c.args.i))
+pub add-requires : goal.add-requires
+add-requires c = plus_fits c.args.center _ c.requires.1 (slight_short _ (slight_at hexagon_table refl c.args.i))
 
 pub returns : goal.returns
 unfolding hexagon_point
-returns c = c.plus.ensures
+returns c = c.add.ensures

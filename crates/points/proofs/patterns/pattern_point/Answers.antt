@@ -7,12 +7,12 @@ use Rattle.points.specs.Patterns.{point_of}
 use Rattle.points.proofs.PatternLaws.{offset-short}
 use Rattle.points.proofs.patterns.pattern_point.Goals as goal
 
-pub plus-requires : goal.plus-requires
-plus-requires c =
+pub add-requires : goal.add-requires
+add-requires c =
     let a = c.args in
     let h = c.requires in
     subst (λ (o : MotionVector). FitsV (plus_v a.center o)) (sym c.pattern_offset.ensures) (plus_fits a.center _ h.2 (offset-short a.pattern h.0 a.i h.1))
 
 pub returns : goal.returns
 unfolding point_of
-returns c = c.plus.ensures ∙ ap (plus_v c.args.center) c.pattern_offset.ensures
+returns c = c.add.ensures ∙ ap (plus_v c.args.center) c.pattern_offset.ensures

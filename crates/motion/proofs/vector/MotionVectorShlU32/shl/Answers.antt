@@ -1,10 +1,10 @@
--- `motion::vector::MotionVector::shl` meets its contract: the bits shifted left are those of the multiple, which fits.
+-- `motion::vector::MotionVectorShlU32::shl` meets its contract: the bits shifted left are those of the multiple, which fits.
 use borrow.Author.Rules.{rules}
 use mir.Syntax.{w16}
 use mir.Val.{SFits}
 use Rattle.ground.proofs.Words.{shl_word}
 use Rattle.motion.specs.Vector.{shl_v}
-use Rattle.motion.proofs.vector.MotionVector.shl.Goals as goal
+use Rattle.motion.proofs.vector.MotionVectorShlU32.shl.Goals as goal
 
 pub returns : goal.returns
 unfolding shl_v

@@ -1,4 +1,4 @@
--- `motion::vector::MotionVector::shr` meets its contract: a shifted component fits where the component does.
+-- `motion::vector::MotionVectorShrU32::shr` meets its contract: a shifted component fits where the component does.
 use borrow.Author.Rules.{rules}
 use Prim.Native.Nat.{◌^◌}
 use lib.Signed.{shr_z}
@@ -7,7 +7,7 @@ use mir.Val.{SFits}
 use mir.ValLaws.{to_z-of_z}
 use Rattle.ground.proofs.Words.{shr_fits}
 use Rattle.motion.specs.Vector.{shr_v}
-use Rattle.motion.proofs.vector.MotionVector.shr.Goals as goal
+use Rattle.motion.proofs.vector.MotionVectorShrU32.shr.Goals as goal
 
 pub returns : goal.returns
 unfolding shr_v
