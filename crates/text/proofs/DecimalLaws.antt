@@ -22,13 +22,6 @@ unfolding digits_in
 none zero = refl
 none (suc k) = refl
 
-pub one-digit : (n : ℕ) → n < 10 → decimal n ≡ digit n ∷ []
-unfolding decimal
-one-digit n h =
-    let tenth : n / 10 ≡ 0 = omega arith in
-    let last : n % 10 ≡ n = omega arith in
-    rw (tenth, none n, last)
-
 -- any bound as large as the number will do
 enough : (k m n : ℕ) → n ≤ k → n ≤ m → digits_in k n ≡ digits_in m n
 unfolding digits_in
@@ -44,9 +37,24 @@ whole k zero p h = absurd (omega arith)
 whole zero (suc n) p h = absurd (omega arith)
 whole (suc k) (suc n) p h = rw (enough k (suc n) (suc n / 10) (omega arith) (omega arith))
 
+-- the digits in front of the last: none, or those of the tenth
+pub front_none : (n : ℕ) → n < 10 → digits_in n (n / 10) ≡ []
+front_none n h =
+    let tenth : n / 10 ≡ 0 = omega arith in
+    rw tenth (none n)
+
+pub front_tenth : (n : ℕ) → 10 ≤ n → digits_in n (n / 10) ≡ decimal (n / 10)
+front_tenth n h = whole n (n / 10) (omega arith) (omega arith)
+
+pub one-digit : (n : ℕ) → n < 10 → decimal n ≡ digit n ∷ []
+unfolding decimal
+one-digit n h =
+    let last : n % 10 ≡ n = omega arith in
+    rw (front_none n h, last)
+
 pub more_digits : (n : ℕ) → 10 ≤ n → decimal n ≡ decimal (n / 10) ++ digit (n % 10) ∷ []
 unfolding decimal
-more_digits n h = ap (λ (l : List ℕ). l ++ digit (n % 10) ∷ []) (whole n (n / 10) (omega arith) (omega arith))
+more_digits n h = ap (λ (l : List ℕ). l ++ digit (n % 10) ∷ []) (front_tenth n h)
 
 pub length_more : (n : ℕ) → 10 ≤ n → length (decimal n) ≡ length (decimal (n / 10)) + 1
 length_more n h = rw (more_digits n h, length-append)

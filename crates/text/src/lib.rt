@@ -1,5 +1,5 @@
-// Numbers and words put as text into lent bytes; each function gives the place behind what it put.
+// Text put into lent bytes: words, and numbers as they are spelled.
 #![tactic(auto)]
 
 pub mod number;
-pub mod words;
+pub mod writer;

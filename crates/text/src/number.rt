@@ -1,32 +1,29 @@
 ghost use Rattle.std.specs.Prelude.{◌+◌, ◌≤◌, length};
 ghost use Rattle.text.specs.Decimal.{decimal, signed};
-ghost use Rattle.text.specs.Put.{Put};
+ghost use Rattle.text.specs.Put.{Puts};
 
-use motion::rate::magnitude;
+use crate::writer::Writer;
 
-// The last digit behind those of the tenth.
-pub fn put_decimal(n: u64, at: usize, out: &mut [u8]) -> usize
-    requires { at + length (decimal n) ≤ length out.old }
-    ensures { Put (decimal n) at out.old result out.new }
-{
-    if n < 10 {
-        out[at] = b'0' + n as u8;
-        return at + 1;
+impl Writer<'_> {
+    // The last digit behind those of the tenth.
+    pub fn put_decimal(&mut self, n: u64)
+        requires { self.old.at + length (decimal n) ≤ length self.old.out.now }
+        ensures { Puts (decimal n) self.old self.new }
+    {
+        if n / 10 > 0 {
+            self.put_decimal(n / 10);
+        }
+        self.put_byte(b'0' + (n % 10) as u8);
     }
-    let last = put_decimal(n / 10, at, out);
-    out[last] = b'0' + (n % 10) as u8;
-    last + 1
-}
 
-// A minus, where there is one, and the digits behind it.
-pub fn put_signed(x: i16, at: usize, out: &mut [u8]) -> usize
-    requires { at + length (signed x) ≤ length out.old }
-    ensures { Put (signed x) at out.old result out.new }
-{
-    let size = magnitude(x) as u64;
-    if x < 0 {
-        out[at] = b'-';
-        return put_decimal(size, at + 1, out);
+    // A minus, where there is one, and the digits behind it.
+    pub fn put_signed(&mut self, x: i16)
+        requires { self.old.at + length (signed x) ≤ length self.old.out.now }
+        ensures { Puts (signed x) self.old self.new }
+    {
+        if x < 0 {
+            self.put_byte(b'-');
+        }
+        self.put_decimal(u64::from(x.unsigned_abs()));
     }
-    put_decimal(size, at, out)
 }
