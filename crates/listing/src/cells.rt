@@ -1,31 +1,32 @@
 ghost use Rattle.std.specs.Prelude.{◌+◌, ◌≤◌, ◌<◌, length};
-ghost use Rattle.text.specs.Put.{Put};
+ghost use Rattle.text.specs.Put.{Puts};
 ghost use Rattle.listing.specs.Parts.{place_text, cell_text};
 
 use grid::cells::MEStats;
-use text::number::{put_decimal, put_signed};
-use text::words::put_byte;
+use text::writer::Writer;
 
 // The column and row of a place.
-pub fn put_place(across: usize, i: usize, at: usize, out: &mut [u8]) -> usize
-    requires { (0 < across) × (at + length (place_text across i) ≤ length out.old) }
-    ensures { Put (place_text across i) at out.old result out.new }
+#[tactic(auto, using(crate::proofs::LineLaws::place_length))]
+pub fn put_place(across: usize, i: usize, w: &mut Writer<'_>)
+    requires { (0 < across) × (w.old.at + length (place_text across i) ≤ length w.old.out.now) }
+    ensures { Puts (place_text across i) w.old w.new }
 {
     let x = i % across;
     let y = i / across;
-    let next = put_decimal(x as u64, at, out);
-    let next = put_byte(b' ', next, out);
-    put_decimal(y as u64, next, out)
+    w.put_decimal(x as u64);
+    w.put_byte(b' ');
+    w.put_decimal(y as u64);
 }
 
 // Row, col and SAD.
-pub fn put_cell_text(cell: MEStats, at: usize, out: &mut [u8]) -> usize
-    requires { at + length (cell_text cell) ≤ length out.old }
-    ensures { Put (cell_text cell) at out.old result out.new }
+#[tactic(auto, using(crate::proofs::LineLaws::cell_length))]
+pub fn put_cell_text(cell: MEStats, w: &mut Writer<'_>)
+    requires { w.old.at + length (cell_text cell) ≤ length w.old.out.now }
+    ensures { Puts (cell_text cell) w.old w.new }
 {
-    let next = put_signed(cell.mv.row, at, out);
-    let next = put_byte(b' ', next, out);
-    let next = put_signed(cell.mv.col, next, out);
-    let next = put_byte(b' ', next, out);
-    put_decimal(cell.normalized_sad as u64, next, out)
+    w.put_signed(cell.mv.row);
+    w.put_byte(b' ');
+    w.put_signed(cell.mv.col);
+    w.put_byte(b' ');
+    w.put_decimal(u64::from(cell.normalized_sad));
 }

@@ -1,48 +1,50 @@
 ghost use Rattle.std.specs.Prelude.{◌+◌, ◌≤◌, ◌<◌, length};
-ghost use Rattle.text.specs.Put.{Put};
+ghost use Rattle.text.specs.Put.{Puts};
 ghost use Rattle.listing.specs.Parts.{across_most, cells_most, line_room};
 ghost use Rattle.listing.specs.Lines.{heading_line, listed_line, refused_line};
 
 use crate::cells::{put_cell_text, put_place};
 use grid::cells::MEStats;
-use text::number::put_decimal;
-use text::words::{put_byte, put_text};
+use text::writer::Writer;
 
 // Room for any line.
 pub const LINE: usize = 64;
 
 // So many columns and rows of cells.
-pub fn put_heading(columns: usize, rows: usize, at: usize, out: &mut [u8]) -> usize
-    requires { at + line_room ≤ length out.old }
-    ensures put { Put (heading_line columns rows) at out.old result out.new }
-    ensures upper_bound { result ≤ at + line_room }
+#[tactic(auto, using(crate::proofs::LineLaws::digits_most))]
+pub fn put_heading(columns: usize, rows: usize, w: &mut Writer<'_>)
+    requires { w.old.at + line_room ≤ length w.old.out.now }
+    ensures put { Puts (heading_line columns rows) w.old w.new }
+    ensures upper_bound { w.new.at ≤ w.old.at + line_room }
 {
-    let next = put_text(b"cells ", at, out);
-    let next = put_decimal(columns as u64, next, out);
-    let next = put_byte(b' ', next, out);
-    let next = put_decimal(rows as u64, next, out);
-    put_byte(b'\n', next, out)
+    w.put_text(b"cells ");
+    w.put_decimal(columns as u64);
+    w.put_byte(b' ');
+    w.put_decimal(rows as u64);
+    w.put_byte(b'\n');
 }
 
 // The line of a cell: its place, and what the grid holds there.
-pub fn put_listed(across: usize, i: usize, cell: MEStats, at: usize, out: &mut [u8]) -> usize
-    requires { (0 < across) × (across ≤ across_most) × (i < cells_most) × (at + line_room ≤ length out.old) }
-    ensures put { Put (listed_line across i cell) at out.old result out.new }
-    ensures upper_bound { result ≤ at + line_room }
+#[tactic(auto, using(crate::proofs::LineLaws::place_most, crate::proofs::LineLaws::cell_most))]
+pub fn put_listed(across: usize, i: usize, cell: MEStats, w: &mut Writer<'_>)
+    requires { (0 < across) × (across ≤ across_most) × (i < cells_most) × (w.old.at + line_room ≤ length w.old.out.now) }
+    ensures put { Puts (listed_line across i cell) w.old w.new }
+    ensures upper_bound { w.new.at ≤ w.old.at + line_room }
 {
-    let next = put_place(across, i, at, out);
-    let next = put_byte(b' ', next, out);
-    let next = put_cell_text(cell, next, out);
-    put_byte(b'\n', next, out)
+    put_place(across, i, w);
+    w.put_byte(b' ');
+    put_cell_text(cell, w);
+    w.put_byte(b'\n');
 }
 
 // The only line of a refusal.
-pub fn put_refused(number: u32, at: usize, out: &mut [u8]) -> usize
-    requires { at + line_room ≤ length out.old }
-    ensures put { Put (refused_line number) at out.old result out.new }
-    ensures upper_bound { result ≤ at + line_room }
+#[tactic(auto, using(crate::proofs::LineLaws::digits_most))]
+pub fn put_refused(number: u32, w: &mut Writer<'_>)
+    requires { w.old.at + line_room ≤ length w.old.out.now }
+    ensures put { Puts (refused_line number) w.old w.new }
+    ensures upper_bound { w.new.at ≤ w.old.at + line_room }
 {
-    let next = put_text(b"refused ", at, out);
-    let next = put_decimal(number as u64, next, out);
-    put_byte(b'\n', next, out)
+    w.put_text(b"refused ");
+    w.put_decimal(u64::from(number));
+    w.put_byte(b'\n');
 }
