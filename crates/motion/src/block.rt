@@ -32,20 +32,11 @@ impl Block {
     pub fn weighed(self, weight: u32) -> Block
         ensures { result ≡ weighed self weight }
     {
-        let range = self.range;
-        Block {
-            po_x: self.po_x,
-            po_y: self.po_y,
-            w: self.w,
-            h: self.h,
-            stride: self.stride,
-            pad: self.pad,
-            range,
-            weight,
-        }
+        Block { weight, ..self }
     }
 }
 
+#[tactic(auto, unfolding(crate::specs::Block::plane_of))]
 pub fn plane_of(width: usize, height: usize, level: Level) -> Plane
     requires { (width ≤ largest_side) × (height ≤ largest_side) × (level.ssdec < 16) × (level.pad ≤ largest_side) }
     ensures { result ≡ plane_of width height level }
@@ -60,15 +51,15 @@ pub fn plane_of(width: usize, height: usize, level: Level) -> Plane
 }
 
 // A block's side in full-size pixels, cropped at the frame's edge.
+#[tactic(auto, unfolding(crate::specs::Block::cropped_to))]
 pub fn cropped(side: usize, mv_size: usize, b: usize) -> usize
     requires { (cell_side * b ≤ side) × (side ≤ largest_side) }
     ensures { result ≡ cropped_to side mv_size b }
 {
-    let left = side - CELL_SIDE * b;
-    if mv_size < left { mv_size } else { left }
+    mv_size.min(side - CELL_SIDE * b)
 }
 
-// A block whose rates weigh nothing.
+// A block whose rates weigh nothing. The numbers stay apart, as the definitions in every caller's contract take them.
 pub fn block_of(
     width: usize,
     height: usize,
@@ -77,8 +68,8 @@ pub fn block_of(
     bx: usize,
     by: usize,
 ) -> Block
-    requires bx_bound { (cell_side * bx ≤ width) × (width ≤ largest_side) × (cell_side * by ≤ height) × (height ≤ largest_side) }
-    requires ssdec_bound { (level.ssdec < 16) × (level.pad ≤ largest_side) × (mv_size ≤ largest_side) }
+    requires inside { (cell_side * bx ≤ width) × (width ≤ largest_side) × (cell_side * by ≤ height) × (height ≤ largest_side) }
+    requires small { (level.ssdec < 16) × (level.pad ≤ largest_side) × (mv_size ≤ largest_side) }
     ensures { result ≡ block_of width height level mv_size bx by }
 {
     let ssdec = level.ssdec;

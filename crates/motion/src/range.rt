@@ -19,47 +19,36 @@ impl MvRange {
     pub fn holds(self, mv: MotionVector) -> bool
         ensures { result ≡ in_range self mv }
     {
-        if !between(self.mvx_min, mv.col, self.mvx_max) {
-            return false;
-        }
-        between(self.mvy_min, mv.row, self.mvy_max)
+        between(self.mvx_min, mv.col, self.mvx_max) && between(self.mvy_min, mv.row, self.mvy_max)
     }
 }
 
 fn between(low: i16, x: i16, high: i16) -> bool
     ensures { result ≡ within low x high }
 {
-    if x < low {
-        return false;
-    }
-    x <= high
+    low <= x && x <= high
 }
 
 // A distance, kept inside the limit.
 fn clipped(distance: usize) -> i16
     ensures { result ≡ pos (min distance vector_limit) }
 {
-    if distance < VECTOR_LIMIT {
-        distance as i16
-    } else {
-        VECTOR_LIMIT as i16
-    }
+    distance.min(VECTOR_LIMIT) as i16
 }
 
+// The ends are no twins: the low one counts the block's size, the high one the cells beyond its start.
 fn mv_min(b: usize, size: usize, ssdec: u32) -> i16
     requires { (b < 2 ^ 32) × (size < 2 ^ 32) × (ssdec < 16) }
     ensures { result ≡ shr_z (clip (mv_min b size)) (2 ^ ssdec) }
 {
-    let low = 0 - clipped(32 * b + 128 + 8 * size);
-    low >> ssdec
+    -clipped(32 * b + 128 + 8 * size) >> ssdec
 }
 
 fn mv_max(in_b: usize, b: usize, ssdec: u32) -> i16
     requires { (b ≤ in_b) × (in_b < 2 ^ 32) × (ssdec < 16) }
     ensures { (size : ℕ) → result ≡ shr_z (clip (mv_max in_b b size)) (2 ^ ssdec) }
 {
-    let high = clipped(32 * (in_b - b) + 128);
-    high >> ssdec
+    clipped(32 * (in_b - b) + 128) >> ssdec
 }
 
 // The range of the block of blk_w by blk_h full-size pixels at cell (bx, by), at shift ssdec.
@@ -72,18 +61,14 @@ pub(crate) fn get_mv_range(
     blk_h: usize,
     ssdec: u32,
 ) -> MvRange
-    requires bx_le_w_in_b { (bx ≤ w_in_b) × (w_in_b < 2 ^ 32) × (by ≤ h_in_b) × (h_in_b < 2 ^ 32) }
-    requires blk_w_bound { (blk_w < 2 ^ 32) × (blk_h < 2 ^ 32) × (ssdec < 16) }
+    requires inside { (bx ≤ w_in_b) × (w_in_b < 2 ^ 32) × (by ≤ h_in_b) × (h_in_b < 2 ^ 32) }
+    requires small { (blk_w < 2 ^ 32) × (blk_h < 2 ^ 32) × (ssdec < 16) }
     ensures { result ≡ range_of w_in_b h_in_b bx by blk_w blk_h ssdec }
 {
-    let mvx_min = mv_min(bx, blk_w, ssdec);
-    let mvx_max = mv_max(w_in_b, bx, ssdec);
-    let mvy_min = mv_min(by, blk_h, ssdec);
-    let mvy_max = mv_max(h_in_b, by, ssdec);
     MvRange {
-        mvx_min,
-        mvx_max,
-        mvy_min,
-        mvy_max,
+        mvx_min: mv_min(bx, blk_w, ssdec),
+        mvx_max: mv_max(w_in_b, bx, ssdec),
+        mvy_min: mv_min(by, blk_h, ssdec),
+        mvy_max: mv_max(h_in_b, by, ssdec),
     }
 }

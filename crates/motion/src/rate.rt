@@ -17,15 +17,12 @@ pub fn magnitude(d: i16) -> u16
 pub fn diff_to_rate(diff: i16) -> u32
     ensures { result ≡ rate diff }
 {
-    let d = diff >> 1;
-    2 * (16 - u16::leading_zeros(magnitude(d)))
+    2 * (16 - (diff >> 1).unsigned_abs().leading_zeros())
 }
 
 // The rate of a vector, against the zero vector as everywhere in the search.
 pub fn get_mv_rate(a: MotionVector) -> u32
     ensures { result ≡ rate_v a }
 {
-    let row = diff_to_rate(a.row);
-    let col = diff_to_rate(a.col);
-    row + col
+    diff_to_rate(a.row) + diff_to_rate(a.col)
 }

@@ -9,7 +9,7 @@ pub fn superblocks_along(side: usize) -> usize
     requires { side ≤ largest_side }
     ensures { result ≡ superblocks_along side }
 {
-    (side + (SB_SIZE - 1)) / SB_SIZE
+    side.div_ceil(SB_SIZE)
 }
 
 // How many superblocks a frame has.
@@ -28,7 +28,7 @@ pub fn superblock_x(width: usize, superblock: usize) -> usize
     SB_SIZE / CELL_SIDE * (superblock % superblocks_along(width))
 }
 
-// The row of a superblock's first cell.
+// The row of a superblock's first cell. It stands beside `superblock_x`, since the definitions name both.
 pub fn superblock_y(width: usize, superblock: usize) -> usize
     requires { (0 < width) × (width ≤ largest_side) × (superblock ≤ largest_side) }
     ensures { result ≡ superblock_y width superblock }

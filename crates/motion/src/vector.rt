@@ -106,9 +106,10 @@ impl MotionVector {
     pub fn quantize_to_fullpel(self) -> MotionVector
         ensures { result ≡ fullpel_v self }
     {
-        let row = whole_pixels(self.row);
-        let col = whole_pixels(self.col);
-        MotionVector { row, col }
+        MotionVector {
+            row: whole_pixels(self.row),
+            col: whole_pixels(self.col),
+        }
     }
 }
 

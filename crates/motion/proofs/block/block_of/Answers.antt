@@ -7,9 +7,9 @@ use Rattle.motion.specs.Range.{range_of}
 use Rattle.motion.specs.Block.{plane_of, cropped_to, block_of}
 use Rattle.motion.proofs.block.block_of.Goals as goal
 
-pub get_mv_range-range-requires-clause-blk_w_bound : goal.get_mv_range-range-requires-clause-blk_w_bound
+pub get_mv_range-range-requires-clause-small : goal.get_mv_range-range-requires-clause-small
 unfolding cropped_to
-get_mv_range-range-requires-clause-blk_w_bound c = omega (arith, c.cropped-blk_w.ensures, c.cropped-blk_h.ensures)
+get_mv_range-range-requires-clause-small c = omega (arith, c.cropped-blk_w.ensures, c.cropped-blk_h.ensures)
 
 pub returns : goal.returns
 unfolding block_of plane_of

@@ -1,5 +1,6 @@
 -- `motion::level::level_of` meets its contract: the arm taken is the row that the tests pick.
 use borrow.Author.Tests.{ne_eqb}
+use native.Mathlib.Omega.{arith}
 use Rattle.motion.specs.Level.{level_of}
 use Rattle.motion.proofs.level.level_of.Goals as goal
 
@@ -13,4 +14,4 @@ returns-in-3 c = rw c.in-3.is
 
 pub returns-in_default : goal.returns-in_default
 unfolding level_of
-returns-in_default c = rw (ne_eqb _ 4 c.in_default.in_default-own.rest.0.1) (rw (ne_eqb _ 3 c.in_default.in_default-own.rest.1))
+returns-in_default c = rw (ne_eqb c.args.level 4 (λ e. omega arith)) (rw (ne_eqb c.args.level 3 (λ e. omega arith)))

@@ -1,27 +1,20 @@
--- `motion::range::between` meets its contract.
-use mathlib.Core.Path.{◌≡◌, sym, ap, ◌∙◌}
-use mathlib.Core.Bool.{Bool, true, false, not, ◌&&◌}
-use lib.IntN.{ℤ}
-use lib.Signed.{lt_z, le_z}
+-- `motion::range::between` meets its contract: the tests of the bits are those of the numbers.
+use mathlib.Core.Path.{◌≡◌, sym, ◌∙◌}
+use mathlib.Core.Bool.{true, false}
+use lib.Signed.{le_z}
 use mir.Syntax.{w16}
-use Rattle.ground.proofs.Bias.{le_z-not_lt}
-use Rattle.ground.proofs.Words.{lt_plain, le_plain}
+use Rattle.ground.proofs.Words.{le_plain}
 use Rattle.motion.specs.Range.{within}
 use Rattle.motion.proofs.range.between.Goals as goal
 
--- the first test decides the first half
-half : (low x high : ℤ) (t : Bool) → lt_z x low ≡ t → within low x high ≡ not t && le_z x high
+pub returns-then-low-x : goal.returns-then-low-x
 unfolding within
-half low x high t e = ap (λ (u : Bool). u && le_z x high) (le_z-not_lt low x ∙ ap not e)
+returns-then-low-x c =
+    let above : le_z c.args.low c.args.x ≡ true = sym (le_plain w16 c.ranges.low c.ranges.x) ∙ c.if-low-x.true in
+    rw above (le_plain w16 c.ranges.x c.ranges.high)
 
-pub returns-then-x-low : goal.returns-then-x-low
-returns-then-x-low c =
-    let a = c.args in
-    let f = c.ranges in
-    sym (half a.low a.x a.high true (sym (lt_plain w16 f.x f.low) ∙ c.if-x-low.true))
-
-pub returns : goal.returns
-returns c =
-    let a = c.args in
-    let f = c.ranges in
-    le_plain w16 f.x f.high ∙ sym (half a.low a.x a.high false (sym (lt_plain w16 f.x f.low) ∙ c.if-x-low.false))
+pub returns-else-low-x : goal.returns-else-low-x
+unfolding within
+returns-else-low-x c =
+    let above : le_z c.args.low c.args.x ≡ false = sym (le_plain w16 c.ranges.low c.ranges.x) ∙ c.if-low-x.false in
+    rw above c.if-low-x.false

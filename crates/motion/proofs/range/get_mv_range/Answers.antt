@@ -10,10 +10,10 @@ pub returns : goal.returns
 unfolding range_of
 returns c =
     let a = c.args in
-    let x_min = c.mv_min-mvx_min in
-    let x_max = c.mv_max-mvx_max in
-    let y_min = c.mv_min-mvy_min in
-    let y_max = c.mv_max-mvy_max in
+    let x_min = c.mv_min in
+    let x_max = c.mv_max in
+    let y_min = c.mv_min-2 in
+    let y_max = c.mv_max-2 in
     let e1 = back w16 x_min.result (search rules) ∙ x_min.ensures in
     let e2 = back w16 x_max.result (search rules) ∙ x_max.ensures a.blk_w in
     let e3 = back w16 y_min.result (search rules) ∙ y_min.ensures in

@@ -14,5 +14,5 @@ pub returns : goal.returns
 returns c size =
     let a = c.args in
     let m = 2 ^ a.ssdec in
-    shr_word {w = w16} {z = c.clipped-high.result} (record { sfits = (search rules) }) m
-    ∙ ap (λ (z : ℤ). shr_z z m) (c.clipped-high.ensures ∙ sym (ap clip (max_is a.in_b a.b size c.requires.0) ∙ clip-up _))
+    shr_word {w = w16} {z = c.clipped.result} (record { sfits = (search rules) }) m
+    ∙ ap (λ (z : ℤ). shr_z z m) (c.clipped.ensures ∙ sym (ap clip (max_is a.in_b a.b size c.requires.0) ∙ clip-up _))

@@ -12,7 +12,7 @@ use Rattle.ground.proofs.Words.{back, shr_word}
 use Rattle.motion.specs.Limits.{vector_limit}
 use Rattle.motion.specs.Range.{mv_min, clip}
 use Rattle.motion.proofs.RangeLaws.{min-is, clip-down}
-use Rattle.motion.proofs.range.mv_min.Goals.{After-clipped-low}
+use Rattle.motion.proofs.range.mv_min.Goals.{After-clipped}
 use Rattle.motion.proofs.range.mv_min.Goals as goal
 
 low_fits : (n : ℕ) → SFits w16 (neg_ℤ (pos (min n vector_limit)))
@@ -21,13 +21,13 @@ low_fits n = record { sfits = omega (arith, mag-neg (min n vector_limit) {a = ve
 clipped_is : (b size : ℕ) → clip (mv_min b size) ≡ neg_ℤ (pos (min (32 * b + 128 + 8 * size) vector_limit))
 clipped_is b size = ap clip (min-is b size) ∙ clip-down (32 * b + 128 + 8 * size)
 
-module _ (c : After-clipped-low) where
-  turned : pos 0 -ℤ to_z w16 (of_z w16 c.clipped-low.result) ≡ clip (mv_min c.args.b c.args.size)
+module _ (c : After-clipped) where
+  turned : pos 0 -ℤ to_z w16 (of_z w16 c.clipped.result) ≡ clip (mv_min c.args.b c.args.size)
   turned =
-      ap (λ (z : ℤ). pos 0 -ℤ z) (back w16 c.clipped-low.result (search rules) ∙ c.clipped-low.ensures)
+      ap (λ (z : ℤ). pos 0 -ℤ z) (back w16 c.clipped.result (search rules) ∙ c.clipped.ensures)
       ∙ +ℤ_idl _ ∙ sym (clipped_is c.args.b c.args.size)
 
-  turned-fits : SFits w16 (pos 0 -ℤ to_z w16 (of_z w16 c.clipped-low.result))
+  turned-fits : SFits w16 (pos 0 -ℤ to_z w16 (of_z w16 c.clipped.result))
   turned-fits = subst (SFits w16) (sym (turned ∙ clipped_is c.args.b c.args.size)) (low_fits (32 * c.args.b + 128 + 8 * c.args.size))
 
 pub returns : goal.returns

@@ -12,7 +12,5 @@ pub returns : goal.returns
 unfolding rate
 returns c =
     let z = c.args.diff in
-    let halved : c.magnitude.result ≡ nat_abs (shr_z z 2) =
-    c.magnitude.ensures
-    ∙ ap nat_abs (shr_word c.ranges.diff 2) in
-    omega (arith, zeros_and_length c.magnitude.result, ap bit_length halved)
+    let halved : c.unsigned_abs.result ≡ nat_abs (shr_z z 2) = c.unsigned_abs.ensures.value ∙ ap nat_abs (shr_word c.ranges.diff 2) in
+    omega (arith, zeros_and_length c.unsigned_abs.result, ap bit_length halved)

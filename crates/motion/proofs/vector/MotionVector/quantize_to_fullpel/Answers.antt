@@ -14,6 +14,6 @@ returns c =
     let v = c.args.self in
     let row : SFits w16 v.row = search rules in
     let col : SFits w16 v.col = search rules in
-    let rows = back w16 c.whole_pixels-row.result (search rules) ∙ c.whole_pixels-row.ensures ∙ ap fullpel (to_z-of_z w16 v.row row) in
-    let cols = back w16 c.whole_pixels-col.result (search rules) ∙ c.whole_pixels-col.ensures ∙ ap fullpel (to_z-of_z w16 v.col col) in
+    let rows = back w16 c.whole_pixels.result (search rules) ∙ c.whole_pixels.ensures ∙ ap fullpel (to_z-of_z w16 v.row row) in
+    let cols = back w16 c.whole_pixels-2.result (search rules) ∙ c.whole_pixels-2.ensures ∙ ap fullpel (to_z-of_z w16 v.col col) in
     λ i. record { row = rows i; col = cols i }
