@@ -6,7 +6,7 @@ use lib.ListN.{length, length-append}
 use Rattle.grid.specs.declared.cells.MEStats.{MEStats}
 use Rattle.records.specs.Records.{FitsCell}
 use Rattle.listing.specs.Parts.{across_most, cells_most, place_text, cell_text}
-use Rattle.listing.proofs.LineLaws.{place-most, cell-most}
+use Rattle.listing.proofs.LineLaws.{place_most, cell_most}
 use Rattle.report.specs.Lines.{cell_line}
 
 length-line : (across i : ℕ) (a b : MEStats) → length (cell_line across i a b) ≡ length (place_text across i) + length (cell_text a) + length (cell_text b) + 3
@@ -15,4 +15,4 @@ length-line across i a b = simp length-append (omega arith)
 
 pub line-most : (across i : ℕ) (a b : MEStats) → 0 < across → across ≤ across_most → i < cells_most → FitsCell a → FitsCell b → length (cell_line across i a b) ≤ 60
 line-most across i a b p h k f g =
-    omega (arith, length-line across i a b, place-most across i p h k, cell-most a f, cell-most b g)
+    omega (arith, length-line across i a b, place_most across i p h k, cell_most a f, cell_most b g)

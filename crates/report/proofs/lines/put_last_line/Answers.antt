@@ -1,39 +1,10 @@
--- `report::lines::put_last_line` meets its contract: each part goes behind the one before it, and all are within the room.
-use Prim.Native.Nat.{◌≤◌}
-use native.Mathlib.Omega.{arith}
-use lib.ListN.{length}
+-- `report::lines::put_last_line` meets its contract: each part goes behind the one before it.
 use Rattle.text.specs.Ascii.{ascii}
-use Rattle.text.specs.Decimal.{decimal}
-use Rattle.text.proofs.PutLaws.{behind}
-use Rattle.text.proofs.DecimalLaws.{decimal-most}
+use Rattle.text.proofs.PutLaws.{puts_behind}
 use Rattle.report.specs.Lines.{last_line}
-use Rattle.report.proofs.lines.put_last_line.Goals.{Start}
 use Rattle.report.proofs.lines.put_last_line.Goals as goal
-
--- a 64-bit number has twenty digits at most
-digits : (c : Start) → (length (decimal c.args.n) ≤ 20) × (length (decimal c.args.m) ≤ 20)
-digits c = (decimal-most 19 c.args.n (omega arith), decimal-most 19 c.args.m (omega arith))
-
-pub put_decimal-next-requires : goal.put_decimal-next-requires
-put_decimal-next-requires c = omega (arith, digits (goal.at.put_decimal-next-requires c).Start)
-
-pub put_text-next-requires-2 : goal.put_text-next-requires-2
-put_text-next-requires-2 c = omega (arith, digits (goal.at.put_text-next-requires-2 c).Start)
-
-pub put_decimal-next-requires-2 : goal.put_decimal-next-requires-2
-put_decimal-next-requires-2 c = omega (arith, digits (goal.at.put_decimal-next-requires-2 c).Start)
-
-pub put_byte-requires : goal.put_byte-requires
-put_byte-requires c = omega (arith, digits (goal.at.put_byte-requires c).Start)
 
 pub returns-clause-put : goal.returns-clause-put
 unfolding last_line ascii
 returns-clause-put c =
-    let put = behind (behind c.put_text-next.ensures (behind c.put_decimal-next.ensures (behind c.put_text-next-2.ensures c.put_decimal-next-2.ensures))) c.put_byte.ensures in
-    put
-
-pub returns-clause-upper_bound : goal.returns-clause-upper_bound
-unfolding last_line ascii
-returns-clause-upper_bound c =
-    let put = behind (behind c.put_text-next.ensures (behind c.put_decimal-next.ensures (behind c.put_text-next-2.ensures c.put_decimal-next-2.ensures))) c.put_byte.ensures in
-    omega (arith, put.next, digits (goal.at.returns-clause-upper_bound c).Start)
+    puts_behind (puts_behind c.put_text.ensures (puts_behind c.put_decimal.ensures (puts_behind c.put_text-2.ensures c.put_decimal-2.ensures))) c.put_byte.ensures
