@@ -2,3 +2,4 @@
 pub mod CellLaws
 pub mod SaveLaws
 pub mod RowLaws
+pub mod LentLaws

@@ -1,7 +1,7 @@
 -- Laws of saving a result: what the cells hold after it, and how two saves go together. Assumes nothing.
 use mathlib.Core.Path.{◌≡◌, refl, sym, ap, ap₂, ◌∙◌}
 use mathlib.Core.Bool.{Bool, true, false, ◌&&◌, ◌||◌, cond, false≢true, or-true}
-use mathlib.Core.List.{List, [], ◌∷◌}
+use mathlib.Core.List.{List, [], ◌∷◌, ◌++◌}
 use mathlib.Core.Logic.{⊎_elim}
 use Prim.Native.Nat.{ℕ, zero, suc, ◌+◌, ◌-◌, ◌*◌, ◌/◌, ◌%◌, ◌≤◌, ◌<◌}
 use native.Mathlib.Nat.{eq-zero-or-pos, mul-add-div_right, mul-add-mod_self_right, mod-eq_of_lt, div-eq_of_lt}
@@ -9,8 +9,11 @@ use native.Mathlib.Omega.{arith}
 use borrow.Author.Tests.{ltb-true, leb-true, lt-ltb, le-leb}
 use lib.Dec.{leb, ltb}
 use lib.IntN.{pos}
-use lib.ListN.{length, get_or, set, length-set}
+use lib.Lanes.{put_chunk}
+use lib.ListN.{length, get_or, set, take, drop, replicate, length-set}
 use lib.Seq.{ext_get_or, get_or-set_same, get_or-set_other}
+use borrow.Rule.Slice.PartMut.{mid_of, put_mid, mid_len}
+use Rattle.std.proofs.lemmas.Simd.{put_chunk_is, length-put_chunk, get_or-put_chunk_below, get_or-put_chunk_at, get_or-put_chunk_above, length-replicate, get_or-replicate}
 use Rattle.ground.proofs.TestLaws.{both, either, same}
 use Rattle.motion.specs.Limits.{cell_side}
 use Rattle.grid.specs.declared.cells.MEStats.{MEStats}
@@ -128,6 +131,39 @@ module _ {A : Type 0} where
           let inside : j < length xs = omega (arith, length-set xs i new) in
           set_at xs i j new new (up_to i (i + 1) j) inside refl ∙ sym (get_d_replace (up_to i (i + 1)) new xs j new inside)
 
+-- a run of places filled with one value is those places replaced
+module _ {A : Type 0} (xs : List A) (i j : ℕ) (v : A) (p : i ≤ j) (q : j ≤ length xs) where
+  abbrev run : List A
+  run = replicate (j - i) v
+
+  run_long : length run ≡ j - i
+  run_long = length-replicate (j - i) v
+
+  past : (k : ℕ) → up_to i j k ≡ false → i ≤ k → j ≤ k
+  past k e h = ⊎_elim (λ z. omega arith) (λ r. absurd (false≢true (sym e ∙ true-up_to i j k h (omega arith)))) (eq-zero-or-pos (j - k))
+
+  run_at : (k : ℕ) → k < length xs → (t : Bool) → up_to i j k ≡ t → get_or (put_chunk i xs run) k v ≡ cond t v (get_or xs k v)
+  run_at k h true e =
+      let inside = up-to_true i j k e in
+      ap (λ (n : ℕ). get_or (put_chunk i xs run) n v) (omega arith)
+      ∙ get_or-put_chunk_at i xs run (k - i) v (omega (arith, run_long)) (omega (arith, run_long))
+      ∙ get_or-replicate (j - i) (k - i) v v (omega arith)
+  run_at k h false e =
+      ⊎_elim (λ z. get_or-put_chunk_above i xs run k v (omega (arith, run_long, past k e (omega arith))))
+      (λ r. get_or-put_chunk_below i xs run k v (omega arith)) (eq-zero-or-pos (i - k))
+
+  pub fill-replaces : (ys : List A) → ys ≡ replicate (length (mid_of i (j - i) xs)) v → put_mid i (j - i) xs ys ≡ replace (up_to i j) v xs
+  fill-replaces ys e =
+      let whole : ys ≡ run = e ∙ ap (λ (n : ℕ). replicate n v) (mid_len i j xs q) in
+      let filled : put_mid i (j - i) xs run ≡ put_chunk i xs run =
+      ap (λ (n : ℕ). take i xs ++ (run ++ drop n (drop i xs))) (sym run_long) ∙ sym (put_chunk_is i xs run (omega (arith, run_long))) in
+      ap (put_mid i (j - i) xs) whole
+      ∙ filled
+      ∙ ext_get_or v _ _ (length-put_chunk i xs run ∙ sym (length-replace (up_to i j) v xs))
+      (λ k h.
+      let inside : k < length xs = omega (arith, length-put_chunk i xs run) in
+      run_at k inside (up_to i j k) refl ∙ sym (get_d_replace (up_to i j) v xs k v inside))
+
 pub same-grid : {g h : Grid} → g.rows ≡ h.rows → g.cols ≡ h.cols → g.sads ≡ h.sads → g ≡ h
 same-grid p q r = λ i. record { rows = p i; cols = q i; sads = r i }
 
@@ -136,10 +172,6 @@ module _ (test : ℕ → Bool) (stats : MEStats) (g : Grid) where
   pub save_lengths : (length (save_where test stats g).rows ≡ length g.rows) × (length (save_where test stats g).cols ≡ length g.cols) × (length (save_where test stats g).sads ≡ length g.sads)
   unfolding save_where
   save_lengths = (length-replace test _ g.rows, length-replace test _ g.cols, length-replace test _ g.sads)
-
-  pub saved_lengths : (h : Grid) → h ≡ save_where test stats g → (length h.rows ≡ length g.rows) × (length h.cols ≡ length g.cols) × (length h.sads ≡ length g.sads)
-  saved_lengths h e =
-      (ap (λ (k : Grid). length k.rows) e ∙ save_lengths.0, ap (λ (k : Grid). length k.cols) e ∙ save_lengths.1, ap (λ (k : Grid). length k.sads) e ∙ save_lengths.2)
 
   pub read_outside : (i : ℕ) → test i ≡ false → stats_at (save_where test stats g) i ≡ stats_at g i
   unfolding save_where stats_at stored_at
@@ -204,17 +236,6 @@ save_next {low} {i} p n stats g {h} e =
     same-grid {h = save_where (up_to i (i + 1)) stats h} (set-replaces h.rows i _) (set-replaces h.cols i _) (set-replaces h.sads i _)
     ∙ save_on p (omega arith) stats g e
     ∙ ap (λ (m : ℕ). save_where (up_to low m) stats g) n
-
-abbrev set_four : {A : Type 0} → List A → ℕ → A → List A
-set_four xs i new = set (set (set (set xs i new) (i + 1) new) (i + 2) new) (i + 3) new
-
--- or the next four
-pub save_four : {low i : ℕ} → low ≤ i → (stats : MEStats) (g : Grid) {h : Grid} → h ≡ save_where (up_to low i) stats g → grid_of (set_four h.rows i stats.mv.row) (set_four h.cols i stats.mv.col) (set_four h.sads i stats.normalized_sad) ≡ save_where (up_to low (i + 4)) stats g
-save_four {low} {i} p stats g {h} e =
-    let one = save_next p refl stats g e in
-    let two : grid_of _ _ _ ≡ save_where (up_to low (i + 2)) stats g = save_next (omega arith) (omega arith) stats g one in
-    let three : grid_of _ _ _ ≡ save_where (up_to low (i + 3)) stats g = save_next (omega arith) (omega arith) stats g two in
-    save_next (omega arith) (omega arith) stats g three
 
 -- a block's cells by their columns and rows
 pub covers_at : (width height size bx by x y : ℕ) → x < width / cell_side → covers width height size bx by (cell_at width x y) ≡ (up_to bx (bx + size / cell_side) x && (up_to by (by + size / cell_side) y && ltb y (height / cell_side)))

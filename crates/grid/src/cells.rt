@@ -6,7 +6,7 @@ use motion::limits::CELL_SIDE;
 use motion::vector::MotionVector;
 
 // What a cell of the grid holds.
-#[derive(Clone, Copy)]
+#[derive(Clone, Copy, Debug, PartialEq, Eq)]
 pub struct MEStats {
     pub mv: MotionVector,
     pub normalized_sad: u32,
@@ -58,7 +58,7 @@ pub fn save_cell(i: usize, stats: MEStats, rows: &mut [i16], cols: &mut [i16], s
 pub fn least(a: usize, b: usize) -> usize
     ensures { result ≡ min a b }
 {
-    if a < b { a } else { b }
+    a.min(b)
 }
 
 // How many cells the shortest of a grid's buffers has.

@@ -1,12 +1,9 @@
-ghost use Rattle.std.specs.Prelude.{◌≡◌, ◌/◌, ◌≤◌, ◌<◌, length};
-ghost use Rattle.motion.specs.Limits.{largest_side, cell_side};
-ghost use Rattle.grid.specs.Grid.{Held, grid_of, room, stored_at, stats_at, with_cell};
-ghost use Rattle.grid.specs.Save.{save_block};
+ghost use Rattle.std.specs.Prelude.{◌≡◌, ◌<◌, length};
+ghost use Rattle.grid.specs.Grid.{grid_of, room, stored_at, stats_at, with_cell};
 ghost use Rattle.grid.specs.Previous.{previous};
 ghost use Rattle.grid.specs.Lent.{lent, lent_mut, SameBuffers, previous_lent, SamePrevious};
 
 use crate::cells::MEStats;
-use crate::save::save_me_stats;
 use motion::vector::MotionVector;
 
 // A grid lent to be read: its three buffers.
@@ -84,34 +81,6 @@ impl GridMut<'_> {
         self.rows[i] = stats.mv.row;
         self.cols[i] = stats.mv.col;
         self.sads[i] = stats.normalized_sad;
-    }
-
-    // One result over the cells of a block, cropped at the frame.
-    pub fn save_me_stats(
-        &mut self,
-        width: usize,
-        height: usize,
-        mv_size: usize,
-        bx: usize,
-        by: usize,
-        stats: MEStats,
-    )
-        requires width_le_largest_side { (width ≤ largest_side) × (height ≤ largest_side) × (mv_size ≤ largest_side) × (bx < width / cell_side) × (by < height / cell_side) }
-        requires held { Held width height (lent_mut self.old) }
-        ensures saved { lent_mut self.new ≡ save_block width height mv_size bx by stats (lent_mut self.old) }
-        ensures same { SameBuffers self.old self.new }
-    {
-        save_me_stats(
-            width,
-            height,
-            mv_size,
-            bx,
-            by,
-            stats,
-            &mut *self.rows,
-            &mut *self.cols,
-            &mut *self.sads,
-        );
     }
 }
 
