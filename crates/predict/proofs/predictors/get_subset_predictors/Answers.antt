@@ -1,27 +1,24 @@
 -- `predict::predictors::get_subset_predictors` meets its contract: the cells sampled are inside the grids, and each field is what the
 -- called functions give of them.
-use mathlib.Core.Path.{◌≡◌, sym, ap, ap₂, subst, ◌∙◌}
-use mathlib.Core.Bool.{Bool, not}
-use mathlib.Core.List.{List, [], ◌∷◌, ◌++◌}
-use Prim.Native.Nat.{ℕ, ◌+◌, ◌*◌, ◌≤◌, ◌<◌, min}
-use native.Mathlib.Omega.{arith}
-use lib.Dec.{eqb}
-use lib.ListN.{take, get_or, length-append}
+use Rattle.std.proofs.Common.{◌≡◌, ℕ, ◌+◌, ◌*◌, ◌≤◌, ◌<◌, min, Bool, true, false, not, eqb, List, [], ◌∷◌, ◌++◌, get_or, replicate, ◌-◌, ◌^◌, ℤ, ◌≤ℤ◌, IfSome, refl, sym, ap, subst, ◌∙◌, arith, length-append}
+use Rattle.std.specs.Bool.{then_some}
+use Rattle.std.specs.Option.{option_to_list}
+use Rattle.std.proofs.lemmas.Int.{ints}
 use Rattle.motion.specs.declared.level.Level.{Level}
 use Rattle.motion.specs.declared.block.Block.{Block}
-use Rattle.motion.specs.declared.range.MvRange.{MvRange}
 use Rattle.motion.specs.Level.{level_of}
 use Rattle.motion.specs.Vector.{zero_v}
 use Rattle.motion.specs.Block.{block_of}
+use Rattle.motion.proofs.BlockLaws.{Ends, straddles}
 use Rattle.grid.specs.declared.cells.MEStats.{MEStats}
-use Rattle.grid.specs.Grid.{Grid, grid_of}
+use Rattle.grid.specs.Grid.{Grid, cells}
+use Rattle.grid.specs.Lent.{lent, previous_lent}
 use Rattle.grid.proofs.CellLaws.{reached}
-use Rattle.sampled.specs.declared.cells.Cells.{Cells}
-use Rattle.sampled.specs.Slots.{cells_of}
+use Rattle.sampled.proofs.HeldCells.{Reaches, b-held, c_held}
+use Rattle.sampled.specs.Slots.{slotted}
 use Rattle.sampled.specs.Sampled.{taken, centre_cell, cells_b, cells_c, cells_centre}
-use Rattle.sampled.proofs.HeldCells.{reaches, reaches-c, held-list, held-asked}
-use Rattle.sampled.proofs.SampledLaws.{b-few, c_few}
-use Rattle.sampled.proofs.InsideLaws.{b-inside, middle-cell}
+use Rattle.sampled.proofs.SampledLaws.{b-few}
+use Rattle.sampled.proofs.InsideLaws.{middle-cell}
 use Rattle.sampled.proofs.SlotLaws.{slots-zero}
 use Rattle.predict.specs.declared.predictors.Subset.{Subset}
 use Rattle.predict.specs.declared.predictors.MotionEstimationSubsets.{MotionEstimationSubsets}
@@ -29,14 +26,23 @@ use Rattle.predict.specs.Predictors.{predictors_at, sads_at, least_of, minimum_s
 use Rattle.predict.proofs.AreaLaws.{level-small, block_area, minimum_small}
 use Rattle.predict.proofs.LeastLaws.{least-both}
 use Rattle.predict.proofs.PredictorLaws.{predictors-count}
-use Rattle.predict.proofs.predictors.get_subset_predictors.Goals.{Start, After-level_of-row, After-block_of-block, After-centre_cell-middle, After-centre_of-m, After-cells_c-c_cells, After-subset_of-b, After-subset_of-c}
+use Rattle.predict.proofs.predictors.get_subset_predictors.Goals.{After-block_of-block, After-centre_cell, After-subset_of-b, in-Some, in-None}
 use Rattle.predict.proofs.predictors.get_subset_predictors.Goals as goal
 
--- a centre's vector and SAD are those of at most one cell
-abbrev Centred : MvRange → ℕ → Grid → List ℕ → MEStats → Type 0
-Centred r s g is m = (m.mv ≡ get_or (predictors_at r s g is) 0 zero_v) × (m.normalized_sad ≡ least_of (sads_at g is))
+-- what the definition samples, and of which block
+abbrev here : (width height level bx by : ℕ) → Block
+here width height level bx by = block_of width height (level_of level) (level_of level).mv_size bx by
+
+abbrev sample : (width height level bx by : ℕ) → Grid → List ℕ → Subset
+sample width height level bx by g is = subset_of (here width height level bx by).range (level_of level).ssdec g is
 
 module _ (width height level bx by : ℕ) (present : Bool) (prev g : Grid) where
+  abbrev b : Block
+  b = here width height level bx by
+
+  abbrev s : ℕ
+  s = (level_of level).ssdec
+
   abbrev bs : List ℕ
   bs = cells_b width height level bx by
 
@@ -46,210 +52,139 @@ module _ (width height level bx by : ℕ) (present : Bool) (prev g : Grid) where
   abbrev ms : List ℕ
   ms = cells_centre width height level bx by
 
-  abbrev here : Block
-  here = block_of width height (level_of level) (level_of level).mv_size bx by
-
-  abbrev r : MvRange
-  r = here.range
-
-  abbrev s : ℕ
-  s = (level_of level).ssdec
-
-  least-is : (b c : Subset) (m : ℕ) → b ≡ subset_of r s g bs → c ≡ subset_of r s prev cs → m ≡ least_of (sads_at g ms)
-      → min b.least (min c.least m) ≡ least_of (sads_at g bs ++ sads_at prev cs ++ sads_at g ms)
+  least-is : (x y : Subset) (m : ℕ) → x ≡ subset_of b.range s g bs → y ≡ subset_of b.range s prev cs → m ≡ least_of (sads_at g ms)
+      → min x.least (min y.least m) ≡ least_of (sads_at g bs ++ sads_at prev cs ++ sads_at g ms)
   unfolding subset_of
-  least-is b c m eb ec em =
-      let least : Subset → ℕ = λ x. x.least in
-      omega (arith, ap least eb, ap least ec, least-both (sads_at g bs ++ sads_at prev cs) (sads_at g ms), least-both (sads_at g bs) (sads_at prev cs))
+  least-is x y m ex ey em =
+      let least : Subset → ℕ = λ z. z.least in
+      omega (arith, ap least ex, ap least ey, least-both (sads_at g bs ++ sads_at prev cs) (sads_at g ms), least-both (sads_at g bs) (sads_at prev cs))
 
-  together : (b c : Subset) (m : MEStats) (min_sad threshold : ℕ) → b ≡ subset_of r s g bs → c ≡ subset_of r s prev cs → Centred r s g ms m
-      → min_sad ≡ minimum_sad (min b.least (min c.least m.normalized_sad)) (here.w * here.h) → threshold ≡ stop_threshold min_sad (here.w * here.h)
+  together : (x y : Subset) (m : MEStats) (min_sad threshold : ℕ) → x ≡ subset_of b.range s g bs → y ≡ subset_of b.range s prev cs
+      → m.mv ≡ get_or (predictors_at b.range s g ms) 0 zero_v → m.normalized_sad ≡ least_of (sads_at g ms)
+      → min_sad ≡ minimum_sad (min x.least (min y.least m.normalized_sad)) (b.w * b.h) → threshold ≡ stop_threshold min_sad (b.w * b.h)
       → ◌≡◌ {A = MotionEstimationSubsets}
       (record {
         min_sad = min_sad;
         threshold = threshold;
         center = m.mv;
-        b_count = b.count + 1;
-        c_count = c.count;
-        subset_b = b.mvs;
-        subset_c = c.mvs;
+        b_count = x.count + 1;
+        c_count = y.count;
+        subset_b = x.mvs;
+        subset_c = y.mvs;
       })
       (subsets_of width height level bx by present prev g)
   unfolding subsets_of subset_of
-  together b c m min_sad threshold eb ec em e f =
-      let vb = predictors_at r s g bs in
-      let count = predictors-count r s g bs in
-      let sad = e ∙ ap (λ (n : ℕ). minimum_sad n (here.w * here.h)) (least-is b c m.normalized_sad eb ec em.1) in
-      let stop = f ∙ ap (λ (n : ℕ). stop_threshold n (here.w * here.h)) sad in
-      let counts = ap (λ (x : Subset). x.count + 1) eb ∙ sym (length-append vb (zero_v ∷ []) ∙ ap (λ (n : ℕ). n + 1) count) in
-      let countc = ap (λ (x : Subset). x.count) ec ∙ sym (predictors-count r s prev cs) in
-      let mvb = ap (λ (x : Subset). x.mvs) eb ∙ sym (slots-zero zero_v vb (omega (arith, count, b-few width height level bx by))) in
-      let mvc = ap (λ (x : Subset). x.mvs) ec in
+  together x y m min_sad threshold ex ey centre sad e f =
+      let vb = predictors_at b.range s g bs in
+      let count = predictors-count b.range s g bs in
+      let least = e ∙ ap (λ (n : ℕ). minimum_sad n (b.w * b.h)) (least-is x y m.normalized_sad ex ey sad) in
+      let stop = f ∙ ap (λ (n : ℕ). stop_threshold n (b.w * b.h)) least in
+      let counts = ap (λ (z : Subset). z.count + 1) ex ∙ sym (length-append vb (zero_v ∷ []) ∙ ap (λ (n : ℕ). n + 1) count) in
+      let countc = ap (λ (z : Subset). z.count) ey ∙ sym (predictors-count b.range s prev cs) in
+      let mvb = ap (λ (z : Subset). z.mvs) ex ∙ sym (slots-zero zero_v vb (omega (arith, count, b-few width height level bx by))) in
+      let mvc = ap (λ (z : Subset). z.mvs) ey in
       λ i. record {
-        min_sad = sad i;
+        min_sad = least i;
         threshold = stop i;
-        center = em.0 i;
+        center = centre i;
         b_count = counts i;
         c_count = countc i;
         subset_b = mvb i;
         subset_c = mvc i;
       }
 
--- the definition's grids, cells, block and samples, at the entry
-abbrev grid : Start → Grid
-grid c = grid_of c.args.rows.now c.args.cols.now c.args.sads.now
+-- with no previous grid nothing is sampled
+none-is : (width height level bx by : ℕ) (g : Grid)
+    → ◌≡◌ {A = Subset} (record { count = 0; mvs = replicate 5 zero_v; least = 2 ^ 32 - 1 }) (sample width height level bx by g (cells_c width height level bx by false))
+unfolding cells_c subset_of predictors_at sads_at least_of slotted
+none-is width height level bx by g = refl
 
-abbrev previous : Start → Grid
-previous c = grid_of c.args.prev_rows.now c.args.prev_cols.now c.args.prev_sads.now
+-- a value that is kept where a test passes
+some_if : {A : Type 0} (P : A → Type 0) (t : Bool) (x : A) → P x → IfSome (then_some t x) P
+some_if P true x h = h
+some_if P false x h = tt
 
-abbrev in_b : Start → List ℕ
-in_b c = cells_b c.args.width c.args.height c.args.level c.args.bx c.args.by
+taken-is : (t : Bool) (i : ℕ) → option_to_list (then_some t i) ≡ taken t i
+unfolding taken
+taken-is true i = refl
+taken-is false i = refl
 
-abbrev in_c : Start → List ℕ
-in_c c = cells_c c.args.width c.args.height c.args.level c.args.bx c.args.by c.args.present
+ends-ordered : {low high : ℤ} → Ends low high → low ≤ℤ high
+ends-ordered e = grind (arith, ints, e.down, e.up)
 
-abbrev in_centre : Start → List ℕ
-in_centre c = cells_centre c.args.width c.args.height c.args.level c.args.bx c.args.by
+-- the block and the cells are the definition's
+block_is : (c : After-block_of-block) → let a = c.args in c.block_of-block.result ≡ block_of a.width a.height (level_of a.level) (level_of a.level).mv_size a.bx a.by
+block_is c = cc
 
-abbrev middle : Start → ℕ
-middle c = centre_cell c.args.width c.args.height (level_of c.args.level).mv_size c.args.bx c.args.by
-
-abbrev block : Start → Block
-block c = block_of c.args.width c.args.height (level_of c.args.level) (level_of c.args.level).mv_size c.args.bx c.args.by
-
-abbrev of-b : Start → Subset
-of-b c = subset_of (block c).range (level_of c.args.level).ssdec (grid c) (in_b c)
-
-abbrev of_c : Start → Subset
-of_c c = subset_of (block c).range (level_of c.args.level).ssdec (previous c) (in_c c)
-
--- the entry, and the block, from the places where the cells are at hand
-abbrev entry : After-block_of-block → Start
-entry c = (goal.at.After-block_of-block c).Start
-
-abbrev at_block : After-cells_c-c_cells → After-block_of-block
-at_block c = (goal.at.After-cells_c-c_cells c).After-block_of-block
-
-shift : (c : After-level_of-row) → c.level_of-row.result.ssdec < 16
-shift c = rw c.level_of-row.ensures (level-small c.args.level).0
-
-size_is : (c : After-level_of-row) → c.level_of-row.result.mv_size ≡ (level_of c.args.level).mv_size
-size_is c = ap (λ (l : Level). l.mv_size) c.level_of-row.ensures
-
-block_is : (c : After-block_of-block) → c.block_of-block.result ≡ block (entry c)
-block_is c =
-    let a = (entry c).args in
-    let l = c.level_of-row.result in
-    let made : c.block_of-block.result ≡ block_of a.width a.height l l.mv_size a.bx a.by = c.block_of-block.ensures in
-    made ∙ ap (λ (x : Level). block_of a.width a.height x x.mv_size a.bx a.by) c.level_of-row.ensures
+middle-is : (c : After-centre_cell) → let a = c.args in c.centre_cell.result ≡ centre_cell a.width a.height (level_of a.level).mv_size a.bx a.by
+middle-is c = cc
 
 area : (c : After-block_of-block) → c.block_of-block.result.w * c.block_of-block.result.h ≤ 4096
 area c =
-    let a = (entry c).args in
+    let a = c.args in
     subst (λ (b : Block). b.w * b.h ≤ 4096) (sym (block_is c)) (block_area a.width a.height a.level a.bx a.by)
 
-middle-is : (c : After-centre_cell-middle) → c.centre_cell-middle.result ≡ middle (entry (goal.at.After-centre_cell-middle c).After-block_of-block)
-middle-is c =
-    let a = (entry (goal.at.After-centre_cell-middle c).After-block_of-block).args in
-    let l = c.level_of-row.result in
-    let made : c.centre_cell-middle.result ≡ centre_cell a.width a.height l.mv_size a.bx a.by = c.centre_cell-middle.ensures in
-    made ∙ ap (λ (n : ℕ). centre_cell a.width a.height n a.bx a.by) (size_is (goal.at.After-centre_cell-middle c).After-level_of-row)
+pub invariant_of-scale-clause-ordered : goal.invariant_of-scale-clause-ordered
+invariant_of-scale-clause-ordered c =
+    let p = c.requires.placed in
+    let s = straddles p.sized p.wide p.high p.across p.down in
+    subst (λ (b : Block). (b.range.mvx_min ≤ℤ b.range.mvx_max) × (b.range.mvy_min ≤ℤ b.range.mvy_max))
+    (sym (block_is (goal.at.invariant_of-scale-clause-ordered c).After-block_of-block)) (ends-ordered s.across, ends-ordered s.along)
 
--- a sample of the cells that a call gave, at the block that a call gave, is one of the definition's
-sample : (g : Grid) (is : List ℕ) {b b' : Block} {l l' : Level} {cs : Cells} {x : Subset} → b ≡ b' → l ≡ l' → cs ≡ cells_of is
-    → x ≡ subset_of b.range l.ssdec g (take cs.count cs.at) → x ≡ subset_of b'.range l'.ssdec g is
-sample g is e f h made = made ∙ (λ i. subset_of (e i).range (f i).ssdec g (held-list is h i))
-
--- and so is a centre
-centre : (g : Grid) (t : Bool) {b b' : Block} {l l' : Level} {k k' : ℕ} {m : MEStats} → b ≡ b' → l ≡ l' → k ≡ k'
-    → Centred b.range l.ssdec g (taken t k) m → Centred b'.range l'.ssdec g (taken t k') m
-centre g t e f h made =
-    (made.0 ∙ (λ i. get_or (predictors_at (e i).range (f i).ssdec g (taken t (h i))) 0 zero_v), made.1 ∙ (λ i. least_of (sads_at g (taken t (h i)))))
-
-centre_is : (c : After-centre_of-m) → let start = entry (goal.at.After-centre_of-m c).After-block_of-block in Centred (block start).range (level_of start.args.level).ssdec (grid start) (in_centre start) c.centre_of-m.result
-unfolding cells_centre
-centre_is c =
-    centre (grid (entry (goal.at.After-centre_of-m c).After-block_of-block)) (not (eqb (entry (goal.at.After-centre_of-m c).After-block_of-block).args.level 4)) (block_is (goal.at.After-centre_of-m c).After-block_of-block) c.level_of-row.ensures (middle-is (goal.at.After-centre_of-m c).After-centre_cell-middle) c.centre_of-m.ensures
-
-c_cells : (c : After-cells_c-c_cells) → c.cells_c-c_cells.result ≡ cells_of (in_c (entry (at_block c)))
-c_cells c = c.cells_c-c_cells.ensures (entry (at_block c)).args.level (size_is (goal.at.After-block_of-block (at_block c)).After-level_of-row)
-
-b-is : (c : After-subset_of-b) → c.subset_of-b.result ≡ of-b (entry (at_block (goal.at.After-subset_of-b c).After-cells_c-c_cells))
-b-is c =
-    let b = at_block (goal.at.After-subset_of-b c).After-cells_c-c_cells in
-    sample (grid (entry b)) (in_b (entry b)) (block_is b) b.level_of-row.ensures c.cells_b-b_cells.ensures c.subset_of-b.ensures
-
-c_is : (c : After-subset_of-c) → c.subset_of-c.result ≡ of_c (entry (at_block (goal.at.After-subset_of-c c).After-cells_c-c_cells))
-c_is c =
-    let b = at_block (goal.at.After-subset_of-c c).After-cells_c-c_cells in
-    sample (previous (entry b)) (in_c (entry b)) (block_is b) b.level_of-row.ensures (c_cells (goal.at.After-subset_of-c c).After-cells_c-c_cells) c.subset_of-c.ensures
+pub invariant_of-scale-clause-small : goal.invariant_of-scale-clause-small
+invariant_of-scale-clause-small c = rw c.level_of-row.ensures (level-small c.args.level).0
 
 pub centre_of-m-requires : goal.centre_of-m-requires
 centre_of-m-requires c =
-    let start = entry (goal.at.centre_of-m-requires c).After-block_of-block in
-    let below = reached {i = c.centre_cell-middle.result} start.requires.held_2 (rw (middle-is c) (middle-cell start.requires.placed)) in
-    (shift (goal.at.centre_of-m-requires c).After-level_of-row, below.0, below.1, below.2)
+    let middle = middle-is (goal.at.centre_of-m-requires c).After-centre_cell in
+    let below : c.centre_cell.result < cells c.args.width c.args.height = rw middle (middle-cell c.requires.placed) in
+    rw c.then_some-centre.ensures (some_if (Reaches (lent c.args.grid.now)) _ c.centre_cell.result (reached c.requires.held below))
 
-pub subset_of-b-requires-clause-ssdec_bound : goal.subset_of-b-requires-clause-ssdec_bound
-subset_of-b-requires-clause-ssdec_bound c =
-    let start = entry (at_block c) in
-    let a = start.args in
-    (held-asked (in_b start) c.cells_b-b_cells.ensures (at_block c).level_of-row.result.ssdec (grid start) (shift (goal.at.After-block_of-block (at_block c)).After-level_of-row) (omega (arith, b-few a.width a.height a.level a.bx a.by))
-    (reaches a.width a.height (grid start) (in_b start) start.requires.held_2 (b-inside a.width a.height a.level a.bx a.by start.requires.placed))).0
+pub subset_of-b-requires-clause-inside : goal.subset_of-b-requires-clause-inside
+subset_of-b-requires-clause-inside c =
+    let a = c.args in
+    rw (c.as_slice.ensures.value, c.cells_b.ensures.cells) (b-held a.width a.height a.level a.bx a.by c.requires.placed (lent a.grid.now) c.requires.held)
 
-pub subset_of-b-requires-clause-by_index : goal.subset_of-b-requires-clause-by_index
-subset_of-b-requires-clause-by_index c =
-    let start = entry (at_block c) in
-    let a = start.args in
-    (held-asked (in_b start) c.cells_b-b_cells.ensures (at_block c).level_of-row.result.ssdec (grid start) (shift (goal.at.After-block_of-block (at_block c)).After-level_of-row) (omega (arith, b-few a.width a.height a.level a.bx a.by))
-    (reaches a.width a.height (grid start) (in_b start) start.requires.held_2 (b-inside a.width a.height a.level a.bx a.by start.requires.placed))).1
-
-pub subset_of-c-requires-clause-ssdec_bound : goal.subset_of-c-requires-clause-ssdec_bound
-subset_of-c-requires-clause-ssdec_bound c =
-    let b = at_block (goal.at.subset_of-c-requires-clause-ssdec_bound c).After-cells_c-c_cells in
-    let start = entry b in
-    let a = start.args in
-    (held-asked (in_c start) (c_cells (goal.at.subset_of-c-requires-clause-ssdec_bound c).After-cells_c-c_cells) b.level_of-row.result.ssdec (previous start) (shift (goal.at.After-block_of-block b).After-level_of-row) (c_few a.width a.height a.level a.bx a.by a.present)
-    (reaches-c a.width a.height a.level a.bx a.by start.requires.placed a.present (previous start) start.requires.held)).0
-
-pub subset_of-c-requires-clause-by_index : goal.subset_of-c-requires-clause-by_index
-subset_of-c-requires-clause-by_index c =
-    let b = at_block (goal.at.subset_of-c-requires-clause-by_index c).After-cells_c-c_cells in
-    let start = entry b in
-    let a = start.args in
-    (held-asked (in_c start) (c_cells (goal.at.subset_of-c-requires-clause-by_index c).After-cells_c-c_cells) b.level_of-row.result.ssdec (previous start) (shift (goal.at.After-block_of-block b).After-level_of-row) (c_few a.width a.height a.level a.bx a.by a.present)
-    (reaches-c a.width a.height a.level a.bx a.by start.requires.placed a.present (previous start) start.requires.held)).1
+pub subset_of-c-requires-clause-inside : goal.subset_of-c-requires-clause-inside
+subset_of-c-requires-clause-inside c =
+    let a = c.args in
+    let held = (rw c.in-Some.is at c.requires.prev_held) refl in
+    rw (c.as_slice-in-Some.ensures.value, c.cells_c.ensures a.level (ap (λ (l : Level). l.mv_size) c.level_of-row.ensures))
+    (c_held a.width a.height a.level a.bx a.by c.requires.placed (lent c.in-Some.prev) held)
 
 pub overflow_mul-area : goal.overflow_mul-area
-overflow_mul-area c = record { fits = omega (arith, area (at_block (goal.at.overflow_mul-area c).After-cells_c-c_cells)) }
+overflow_mul-area c = record { fits = omega (arith, area (goal.at.overflow_mul-area c).After-block_of-block) }
 
 pub overflow_cast-area : goal.overflow_cast-area
-overflow_cast-area c = record { fits = omega (arith, area (at_block (goal.at.overflow_cast-area c).After-cells_c-c_cells)) }
+overflow_cast-area c = record { fits = omega (arith, area (goal.at.overflow_cast-area c).After-block_of-block) }
 
 pub minimum_sad-min_sad-requires : goal.minimum_sad-min_sad-requires
-minimum_sad-min_sad-requires c = area (at_block (goal.at.minimum_sad-min_sad-requires c).After-cells_c-c_cells)
+minimum_sad-min_sad-requires c = area (goal.at.minimum_sad-min_sad-requires c).After-block_of-block
 
-pub stop_threshold-threshold-requires : goal.stop_threshold-threshold-requires
-stop_threshold-threshold-requires c =
-    let b = at_block (goal.at.stop_threshold-threshold-requires c).After-cells_c-c_cells in
-    let least = c.least_of-2 in
-    (rw c.minimum_sad-min_sad.ensures (minimum_small least.result (b.block_of-block.result.w * b.block_of-block.result.h) (omega (arith, c.least_of-2.type_inv)) (area b)), area b)
+pub stop_threshold-requires : goal.stop_threshold-requires
+stop_threshold-requires c =
+    let small = area (goal.at.stop_threshold-requires c).After-block_of-block in
+    (rw c.minimum_sad-min_sad.ensures (minimum_small _ _ (omega (arith, c.min-2.type_inv)) small), small)
 
 pub overflow_add-result : goal.overflow_add-result
 unfolding subset_of
 overflow_add-result c =
-    let a = (entry (at_block (goal.at.overflow_add-result c).After-cells_c-c_cells)).args in
-    record { fits = omega (arith, ap (λ (x : Subset). x.count) (b-is (goal.at.overflow_add-result c).After-subset_of-b), b-few a.width a.height a.level a.bx a.by) }
+    record { fits = omega (arith, ap (λ (x : Subset). x.count) c.subset_of-b.ensures, c.as_slice.ensures.fits) }
 
 pub returns : goal.returns
+unfolding cells_centre
 returns c =
-    let at = at_block (goal.at.returns c).After-cells_c-c_cells in
-    let a = (entry at).args in
-    let b = c.subset_of-b.result in
-    let p = c.subset_of-c.result in
-    let m = c.centre_of-m.result in
-    let here = block_is at in
-    let least : c.least_of-2.result ≡ min b.least (min p.least m.normalized_sad) = c.least_of-2.ensures ∙ ap (min b.least) c.least_of.ensures in
-    together a.width a.height a.level a.bx a.by a.present (previous (entry at)) (grid (entry at)) b p m c.minimum_sad-min_sad.result c.stop_threshold-threshold.result (b-is (goal.at.returns c).After-subset_of-b) (c_is (goal.at.returns c).After-subset_of-c) (centre_is (goal.at.returns c).After-centre_of-m)
-    (c.minimum_sad-min_sad.ensures ∙ ap₂ (λ (n : ℕ) (x : Block). minimum_sad n (x.w * x.h)) least here)
-    (c.stop_threshold-threshold.ensures ∙ ap (λ (x : Block). stop_threshold c.minimum_sad-min_sad.result (x.w * x.h)) here)
+    let a = c.args in
+    let g = lent a.grid.now in
+    let p = previous_lent a.prev in
+    let block = block_is (goal.at.returns c).After-block_of-block in
+    let x : c.subset_of-b.result ≡ sample a.width a.height a.level a.bx a.by g (cells_b a.width a.height a.level a.bx a.by) = cc in
+    let y : c.match-prev.c ≡ sample a.width a.height a.level a.bx a.by p.grid (cells_c a.width a.height a.level a.bx a.by p.present) =
+    elim c.match-prev.branch [
+      | in-Some w ↦ (let cells = w.cells_c.ensures a.level (ap (λ (l : Level). l.mv_size) c.level_of-row.ensures) in rw w.in-Some.is (cc))
+      | in-None w ↦ rw w.in-None.is (w.c-is ∙ none-is a.width a.height a.level a.bx a.by _)
+    ] in
+    let middle : option_to_list c.then_some-centre.result ≡ cells_centre a.width a.height a.level a.bx a.by =
+    ap option_to_list c.then_some-centre.ensures ∙ taken-is _ _ ∙ ap (taken (not (eqb a.level 4))) (middle-is (goal.at.returns c).After-centre_cell) in
+    together a.width a.height a.level a.bx a.by p.present p.grid g c.subset_of-b.result c.match-prev.c c.centre_of-m.result c.minimum_sad-min_sad.result c.stop_threshold.result
+    x y (cc) (cc) (cc) (cc)

@@ -1,6 +1,6 @@
 -- `predict::threshold::held_threshold` meets its contract: rounding moves a number by a part in 2 ^ 23 at the most.
-use mathlib.Core.Path.{◌≡◌, ap, ◌∙◌}
-use Prim.Native.Nat.{ℕ, ◌+◌, ◌-◌, ◌*◌, ◌/◌, ◌^◌, ◌≤◌}
+use mathlib.Core.Path.{◌≡◌}
+use Prim.Native.Nat.{ℕ, ◌+◌, ◌-◌, ◌/◌, ◌^◌, ◌≤◌}
 use native.Mathlib.Omega.{arith}
 use Rattle.predict.specs.Threshold.{round24, held_threshold}
 use Rattle.predict.proofs.RoundLaws.{round_near}
@@ -8,7 +8,7 @@ use Rattle.predict.proofs.threshold.held_threshold.Goals.{After-round24-product,
 use Rattle.predict.proofs.threshold.held_threshold.Goals as goal
 
 first : (c : After-round24-product) → c.round24-product.result ≤ 2 ^ 30 + 2 ^ 7
-first c = omega (arith, c.round24-product.ensures, (round_near c.args.min_sad).1, c.requires.0)
+first c = omega (arith, c.round24-product.ensures, (round_near c.from.result).1, c.from.ensures, c.requires.0)
 
 -- six fifths of 2 ^ 30, and a little
 small : (r n : ℕ) → r ≡ round24 n → n ≤ 2 ^ 54 - 2 ^ 31 → r / 2 ^ 23 ≤ 2 ^ 31
@@ -31,5 +31,4 @@ overflow_add-result c = omega (arith, first (goal.at.overflow_add-result c).Afte
 
 pub returns : goal.returns
 unfolding held_threshold
-returns c =
-    ap (λ (n : ℕ). n / 8388608 + c.args.area) (c.round24-rounded.ensures ∙ ap (λ (n : ℕ). round24 (n * 10066330)) c.round24-product.ensures)
+returns c = cc
