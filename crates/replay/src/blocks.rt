@@ -1,7 +1,5 @@
-ghost use Rattle.replay.specs.Call.{Drawable};
-
-use crate::columns::Call;
-use crate::grids::{LARGEST_GRID, cell};
+use crate::columns::{Call, Kind};
+use crate::grids::{Grid, cell};
 use searches::calls::{
     lockdapple_diamond, lockdapple_hexagon, lockdapple_multi_hexagon, lockdapple_refine,
 };
@@ -12,17 +10,11 @@ use single::found::Found;
 const ELSEWHERE: i16 = 32767;
 
 // The refinement round the call's vector, which alone is stored in the grid.
-fn refined(call: Call, cur: &[u8], reference: &[u8]) -> Found
-    requires { Drawable call }
-{
+fn refined(call: Call, cur: &[u8], reference: &[u8]) -> Found {
     let at = cell(call.width, call.bx, call.by);
-    let mut rows = [ELSEWHERE; LARGEST_GRID];
-    let mut cols = [ELSEWHERE; LARGEST_GRID];
-    let sads = [0u32; LARGEST_GRID];
-    let row = call.row;
-    let col = call.col;
-    rows[at] = row;
-    cols[at] = col;
+    let mut stored = Grid::new(ELSEWHERE);
+    stored.rows[at] = call.row;
+    stored.cols[at] = call.col;
     lockdapple_refine(
         call.width,
         call.height,
@@ -31,41 +23,14 @@ fn refined(call: Call, cur: &[u8], reference: &[u8]) -> Found
         call.by,
         cur,
         reference,
-        &rows,
-        &cols,
-        &sads,
-        call.weight as u32,
+        &stored.rows,
+        &stored.cols,
+        &stored.sads,
+        call.weight,
     )
 }
 
-fn searched(call: Call, cur: &[u8], reference: &[u8]) -> Found
-    requires { Drawable call }
-{
-    let kind = call.kind;
-    let width = call.width;
-    let height = call.height;
-    let level = call.level;
-    let bx = call.bx;
-    let by = call.by;
-    let row = call.row;
-    let col = call.col;
-    let weight = call.weight as u32;
-    match kind {
-        1 => lockdapple_diamond(
-            width, height, level, bx, by, cur, reference, row, col, weight,
-        ),
-        2 => lockdapple_hexagon(
-            width, height, level, bx, by, cur, reference, row, col, weight,
-        ),
-        _ => lockdapple_multi_hexagon(
-            width, height, level, bx, by, cur, reference, row, col, weight,
-        ),
-    }
-}
-
-fn candidate(call: Call, cur: &[u8], reference: &[u8]) -> Found
-    requires { Drawable call }
-{
+fn candidate(call: Call, cur: &[u8], reference: &[u8]) -> Found {
     lockdapple_candidate(
         call.width,
         call.height,
@@ -77,18 +42,31 @@ fn candidate(call: Call, cur: &[u8], reference: &[u8]) -> Found
         reference,
         call.row,
         call.col,
-        call.weight as u32,
+        call.weight,
     )
 }
 
 // What the proved code finds on a block, in planes of its level.
-pub(crate) fn on_block(call: Call, cur: &[u8], reference: &[u8]) -> Found
-    requires { Drawable call }
-{
-    let kind = call.kind;
-    match kind {
-        0 => candidate(call, cur, reference),
-        4 => refined(call, cur, reference),
-        _ => searched(call, cur, reference),
+pub(crate) fn on_block(call: Call, cur: &[u8], reference: &[u8]) -> Found {
+    let width = call.width;
+    let height = call.height;
+    let level = call.level;
+    let bx = call.bx;
+    let by = call.by;
+    let row = call.row;
+    let col = call.col;
+    let weight = call.weight;
+    match call.kind {
+        Kind::Candidate => candidate(call, cur, reference),
+        Kind::Diamond => lockdapple_diamond(
+            width, height, level, bx, by, cur, reference, row, col, weight,
+        ),
+        Kind::Hexagon => lockdapple_hexagon(
+            width, height, level, bx, by, cur, reference, row, col, weight,
+        ),
+        Kind::MultiHexagon => lockdapple_multi_hexagon(
+            width, height, level, bx, by, cur, reference, row, col, weight,
+        ),
+        Kind::Refinement | Kind::Frame => refined(call, cur, reference),
     }
 }

@@ -1,65 +1,126 @@
-use crate::numbers::{lowered, number_at};
+ghost use Rattle.replay.specs.Call.{Drawable};
 
-// The columns of a line, those of a frame below where they are others:
-//
-//     kind width height level refined bx by content seed row col weight out_row out_col sad cost
-//                       -     present                    -   -   -                          sum
-pub(crate) const COLUMNS: usize = 16;
+use crate::grids::CELLS;
+use crate::numbers::{component, natural};
+use crate::planes::LARGEST;
+use crate::sample::{Content, SEEDS};
+use single::found::Found;
+
+// What a call asks for: a candidate, a search or a refinement on a block, or a run.
+#[derive(Clone, Copy, Debug, PartialEq, Eq)]
+pub(crate) enum Kind {
+    Candidate,
+    Diamond,
+    Hexagon,
+    MultiHexagon,
+    Refinement,
+    Frame,
+}
+
+impl TryFrom<usize> for Kind {
+    type Error = ();
+
+    fn try_from(column: usize) -> Result<Kind, ()> {
+        match column {
+            0 => Ok(Kind::Candidate),
+            1 => Ok(Kind::Diamond),
+            2 => Ok(Kind::Hexagon),
+            3 => Ok(Kind::MultiHexagon),
+            4 => Ok(Kind::Refinement),
+            5 => Ok(Kind::Frame),
+            _ => Err(()),
+        }
+    }
+}
 
 // What the proved code is asked: a kind of call, a block, the content of the planes, and a vector, which a refinement
 // finds stored. Of a frame the block is a cell, and `refined` is whether there is a previous grid.
 #[derive(Clone, Copy)]
 pub(crate) struct Call {
-    pub(crate) kind: usize,
+    pub(crate) kind: Kind,
     pub(crate) width: usize,
     pub(crate) height: usize,
     pub(crate) level: usize,
     pub(crate) refined: usize,
     pub(crate) bx: usize,
     pub(crate) by: usize,
-    pub(crate) content: usize,
+    pub(crate) content: Content,
     pub(crate) seed: usize,
     pub(crate) row: i16,
     pub(crate) col: i16,
-    pub(crate) weight: usize,
+    pub(crate) weight: u32,
+    ghost drawable: { Drawable width height bx by seed },
 }
 
-// Puts a line's numbers, its components raised, and says whether there are as many as columns and nothing else.
-pub(crate) fn put_numbers(line: &[u8], numbers: &mut [usize; COLUMNS]) -> bool {
-    let mut at = 0;
-    let mut column = 0;
-    while column < COLUMNS {
-        let n = number_at(line, at, is_component(column));
-        if n.next == 0 {
-            return false;
+// What is found for a call.
+#[derive(Clone, Copy, Debug, PartialEq, Eq)]
+pub(crate) struct Answer {
+    row: i16,
+    col: i16,
+    sad: usize,
+    cost: usize,
+}
+
+impl From<Found> for Answer {
+    fn from(found: Found) -> Answer {
+        Answer {
+            row: found.row,
+            col: found.col,
+            sad: found.sad as usize,
+            cost: found.cost as usize,
         }
-        numbers[column] = n.value;
-        at = n.next;
-        column += 1;
-    }
-    at > line.len()
-}
-
-fn is_component(column: usize) -> bool {
-    match column {
-        9 | 10 | 12 | 13 => true,
-        _ => false,
     }
 }
 
-pub(crate) fn call_of(numbers: &[usize; COLUMNS]) -> Call {
-    Call {
-        kind: numbers[0],
-        width: numbers[1],
-        height: numbers[2],
-        level: numbers[3],
-        refined: numbers[4],
-        bx: numbers[5],
-        by: numbers[6],
-        content: numbers[7],
-        seed: numbers[8],
-        row: lowered(numbers[9]),
-        col: lowered(numbers[10]),
-        weight: numbers[11],
+// A call and what the published Rust found, from the columns of a line, those of a frame below where they are others:
+//
+//     kind width height level refined bx by content seed row col weight out_row out_col sad cost
+//                       -     present                    -   -   -                          sum
+//
+// There is no case where the columns are more or fewer, or one is no such number; where there is no such kind or content, no
+// plane has the seed or the weight is no word; or where a side or a cell is past the buffers.
+pub(crate) fn case_of(line: &[u8]) -> Option<(Call, Answer)> {
+    let mut columns = line.split(|b| *b == b' ');
+    let kind = Kind::try_from(natural(columns.next()?)?).ok()?;
+    let width = natural(columns.next()?)?;
+    let height = natural(columns.next()?)?;
+    let level = natural(columns.next()?)?;
+    let refined = natural(columns.next()?)?;
+    let bx = natural(columns.next()?)?;
+    let by = natural(columns.next()?)?;
+    let content = Content::try_from(natural(columns.next()?)?).ok()?;
+    let seed = natural(columns.next()?)?;
+    let row = component(columns.next()?)?;
+    let col = component(columns.next()?)?;
+    let weight = u32::try_from(natural(columns.next()?)?).ok()?;
+    let answer = Answer {
+        row: component(columns.next()?)?,
+        col: component(columns.next()?)?,
+        sad: natural(columns.next()?)?,
+        cost: natural(columns.next()?)?,
+    };
+    if columns.next().is_some()
+        || width > LARGEST
+        || height > LARGEST
+        || bx >= CELLS
+        || by >= CELLS
+        || seed >= SEEDS
+    {
+        return None;
     }
+    let call = Call {
+        kind,
+        width,
+        height,
+        level,
+        refined,
+        bx,
+        by,
+        content,
+        seed,
+        row,
+        col,
+        weight,
+    };
+    Some((call, answer))
 }

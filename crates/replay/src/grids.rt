@@ -1,13 +1,12 @@
 ghost use Rattle.std.specs.Prelude.{◌≤◌, ◌<◌};
 
-use crate::numbers::{lowered, raised};
 use crate::sample::PRIME;
 
 // No frame has more cells on a side.
 pub(crate) const CELLS: usize = 34;
 
 // Nor more in all.
-pub(crate) const LARGEST_GRID: usize = 1156;
+pub(crate) const LARGEST_GRID: usize = CELLS * CELLS;
 
 // The number of a cell.
 pub(crate) fn cell(width: usize, bx: usize, by: usize) -> usize
@@ -25,26 +24,18 @@ pub(crate) fn cells(width: usize, height: usize) -> usize
     width / 4 * (height / 4)
 }
 
-// The previous grid, as the published Rust was given it: rows from -128 on, columns from -192.
-pub(crate) fn previous(
-    rows: &mut [i16; LARGEST_GRID],
-    cols: &mut [i16; LARGEST_GRID],
-    sads: &mut [u32; LARGEST_GRID],
-) {
-    let mut i: usize = 0;
-    while i < LARGEST_GRID {
-        rows[i] = lowered(i * 37 % 257 + 32640);
-        cols[i] = lowered(i * 91 % 385 + 32576);
-        sads[i] = (i * 7919 % 65536) as u32;
-        i += 1;
-    }
-}
-
 fn folded(sum: usize, n: usize) -> usize
     requires { (sum < 2147483647) × (n < 4294967296) }
     ensures { result < 2147483647 }
 {
     (sum * 65599 + n) % PRIME
+}
+
+// A component raised, so that it is never negative.
+fn raised(v: i16) -> usize
+    ensures { result < 65536 }
+{
+    (i64::from(v) + 32768) as usize
 }
 
 fn cell_folded(sum: usize, row: i16, col: i16, sad: u32) -> usize
@@ -56,20 +47,43 @@ fn cell_folded(sum: usize, row: i16, col: i16, sad: u32) -> usize
     folded(with_col, sad as usize)
 }
 
-// The sum over the cells of a grid, as the published Rust's was made.
-pub(crate) fn sum(
-    count: usize,
-    rows: &[i16; LARGEST_GRID],
-    cols: &[i16; LARGEST_GRID],
-    sads: &[u32; LARGEST_GRID],
-) -> usize
-    requires { count ≤ 1156 }
-{
-    let mut sum: usize = 0;
-    let mut i = 0;
-    while i < count {
-        sum = cell_folded(sum, rows[i], cols[i], sads[i]);
-        i += 1;
+// The cells of the largest grid.
+#[derive(Drop)]
+pub(crate) struct Grid {
+    pub(crate) rows: [i16; LARGEST_GRID],
+    pub(crate) cols: [i16; LARGEST_GRID],
+    pub(crate) sads: [u32; LARGEST_GRID],
+}
+
+impl Grid {
+    // Both components of all cells hold this.
+    pub(crate) fn new(component: i16) -> Grid {
+        Grid {
+            rows: [component; LARGEST_GRID],
+            cols: [component; LARGEST_GRID],
+            sads: [0; LARGEST_GRID],
+        }
     }
-    sum
+
+    // The previous grid, as the published Rust was given it: rows from -128 on, columns from -192.
+    pub(crate) fn previous() -> Grid {
+        let mut cells = Grid::new(0);
+        for i in 0..LARGEST_GRID {
+            cells.rows[i] = (i * 37 % 257) as i16 - 128;
+            cells.cols[i] = (i * 91 % 385) as i16 - 192;
+            cells.sads[i] = (i * 7919 % 65536) as u32;
+        }
+        cells
+    }
+
+    // The sum over the first cells, as the published Rust's was made.
+    pub(crate) fn sum(&self, count: usize) -> usize
+        requires { count ≤ 1156 }
+    {
+        let mut sum = 0;
+        for i in 0..count {
+            sum = cell_folded(sum, self.rows[i], self.cols[i], self.sads[i]);
+        }
+        sum
+    }
 }

@@ -21,14 +21,14 @@ mod report;
 mod sample;
 mod tally;
 
-ghost use Rattle.std.specs.Prelude.{◌≤◌, ◌<◌, ◌^◌, length};
+ghost use Rattle.std.specs.Prelude.{◌≤◌, ◌<◌, ◌^◌, length, MatchOption};
 ghost use Rattle.replay.specs.Tally.{Within};
 
 use crate::lines::replayed;
 use crate::planes::SAMPLES;
 use crate::report::{cannot_read, equal_of, report};
 use crate::tally::Tally;
-use given::arguments::{NAME, argument_count, put_argument};
+use given::arguments::{NAME, argument, argument_count};
 use given::files::{open_named, read_full};
 use print::text;
 
@@ -38,16 +38,15 @@ const TOO_LONG: usize = 16384;
 // No system passes more arguments.
 const ARGUMENTS: usize = 0x7fff_ffff;
 
-// A file's bytes and how many they are, none where it cannot be read: a failed read gives no byte, and a full buffer may
-// be a part of the file.
-fn read(rt: &HostRuntime, name: &[u8], file: &mut [u8]) -> usize
-    ensures { (result ≤ length file.new) × (result < 16384) }
+// A file's bytes: none where it cannot be read. A failed read gives no byte, and a full buffer may be a part of the file.
+fn read<'a>(rt: &HostRuntime, name: &[u8], file: &'a mut [u8]) -> Option<&'a [u8]>
+    ensures { MatchOption result (Unit {0}) (λ bytes. length bytes.now < TOO_LONG) }
 {
-    let Ok(mut opened) = open_named(rt, name) else {
-        return 0;
-    };
-    let n = read_full(&mut opened, file);
-    if n < TOO_LONG { n } else { 0 }
+    let n = read_full(&mut open_named(rt, name).ok()?, file);
+    if n == 0 || n >= TOO_LONG {
+        return None;
+    }
+    Some(&file[..n])
 }
 
 fn replay(
@@ -59,12 +58,11 @@ fn replay(
 ) -> Tally
     ensures { Within result (2 ^ 16) }
 {
-    let n = read(rt, name, file);
-    if n == 0 {
+    let Some(lines) = read(rt, name, file) else {
         cannot_read(rt, name);
         return Tally::new();
-    }
-    let tally = replayed(&file[..n], cur, reference);
+    };
+    let tally = replayed(lines, cur, reference);
     report(rt, name, tally);
     tally
 }
@@ -79,9 +77,9 @@ fn replay_named(
 ) -> Tally
     ensures { Within result (2 ^ 16) }
 {
-    let mut name = [0u8; NAME];
-    let letters = put_argument(rt, which, &mut name);
-    replay(rt, &name[..letters], file, cur, reference)
+    let mut room = [0u8; NAME];
+    let name = argument(rt, which, &mut room).unwrap_or(b"");
+    replay(rt, name, file, cur, reference)
 }
 
 fn replay_all(
@@ -90,15 +88,9 @@ fn replay_all(
     cur: &mut [u8; SAMPLES],
     reference: &mut [u8; SAMPLES],
 ) {
-    let count = argument_count(rt);
     let mut all = Tally::new();
-    let mut which = 1;
-    while which < count {
-        if which > ARGUMENTS {
-            break;
-        }
-        all = all.plus(replay_named(rt, which, file, cur, reference));
-        which += 1;
+    for which in 1..argument_count(rt).min(ARGUMENTS + 1) {
+        all = all + replay_named(rt, which, file, cur, reference);
     }
     equal_of(rt, b"equal", all);
 }

@@ -1,8 +1,7 @@
 ghost use Rattle.std.specs.Prelude.{◌+◌, ◌≤◌, ◌<◌, length};
-ghost use Rattle.replay.specs.Call.{Drawable};
 
 use crate::columns::Call;
-use crate::sample::value;
+use crate::sample::{Content, value};
 
 // No side of a frame is longer than this.
 pub(crate) const LARGEST: usize = 136;
@@ -16,51 +15,35 @@ pub(crate) const HALF: usize = 53824;
 // Where the quarter-size plane starts.
 pub(crate) const QUARTER: usize = 75728;
 
-// Draws rows of `stride` samples from place `from` up to `to`. Those past the last row of a plane are never looked at.
-fn fill(
-    planes: &mut [u8; SAMPLES],
-    from: usize,
-    to: usize,
-    stride: usize,
-    content: usize,
-    seed: usize,
-    which: usize,
-)
-    requires { («from» ≤ to) × (to ≤ «from» + 65536) × (to ≤ 81204) × (seed < 65536) × (which ≤ 1) }
+// Draws rows of `stride` samples. Those past the last row of a plane are never looked at.
+fn fill(plane: &mut [u8], stride: usize, content: Content, seed: usize, which: usize)
+    requires { (length plane.old ≤ 65536) × (0 < stride) × (seed < 65536) × (which ≤ 1) }
 {
-    let mut x: usize = 0;
-    let mut y: usize = 0;
-    let mut i = from;
-    while i < to {
-        planes[i] = value(content, seed, which, x, y) as u8;
-        x += 1;
-        if x == stride {
-            x = 0;
-            y += 1;
+    for (y, row) in plane.chunks_mut(stride).enumerate() {
+        for (x, sample) in row.iter_mut().enumerate() {
+            *sample = value(content, seed, which, x, y) as u8;
         }
-        i += 1;
     }
 }
 
 // Draws the plane of the call's level, of the current frame (0) or the reference (1). A frame's call has no level, and a
 // run looks at all.
 pub(crate) fn draw(call: Call, which: usize, planes: &mut [u8; SAMPLES])
-    requires { Drawable call × (which ≤ 1) }
+    requires { which ≤ 1 }
 {
-    let level = call.level;
     let full = call.width + 2 * 48;
     let half = call.width / 2 + 2 * 40;
     let quarter = call.width / 4 + 2 * 20;
     let content = call.content;
     let seed = call.seed;
-    match level {
-        4 => fill(planes, QUARTER, SAMPLES, quarter, content, seed, which),
-        3 => fill(planes, HALF, QUARTER, half, content, seed, which),
-        2 => fill(planes, 0, HALF, full, content, seed, which),
+    match call.level {
+        4 => fill(&mut planes[QUARTER..], quarter, content, seed, which),
+        3 => fill(&mut planes[HALF..QUARTER], half, content, seed, which),
+        2 => fill(&mut planes[..HALF], full, content, seed, which),
         _ => {
-            fill(planes, QUARTER, SAMPLES, quarter, content, seed, which);
-            fill(planes, HALF, QUARTER, half, content, seed, which);
-            fill(planes, 0, HALF, full, content, seed, which);
+            fill(&mut planes[QUARTER..], quarter, content, seed, which);
+            fill(&mut planes[HALF..QUARTER], half, content, seed, which);
+            fill(&mut planes[..HALF], full, content, seed, which);
         }
     }
 }

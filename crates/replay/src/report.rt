@@ -14,15 +14,13 @@ pub(crate) fn equal_of(rt: &impl Print, what: &[u8], tally: Tally) {
     text(rt, b"\n");
 }
 
-// Line 0 stands for none.
-fn at_line(rt: &impl Print, what: &[u8], file: &[u8], line: u64) {
-    if line == 0 {
-        return;
+fn at_line(rt: &impl Print, what: &[u8], file: &[u8], line: Option<u64>) {
+    if let Some(line) = line {
+        text(rt, what);
+        text(rt, file);
+        labelled(rt, b" ", line);
+        text(rt, b"\n");
     }
-    text(rt, what);
-    text(rt, file);
-    labelled(rt, b" ", line);
-    text(rt, b"\n");
 }
 
 pub(crate) fn report(rt: &impl Print, file: &[u8], tally: Tally) {

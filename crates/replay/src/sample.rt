@@ -1,8 +1,31 @@
 ghost use Rattle.std.specs.Prelude.{◌≤◌, ◌<◌};
 
-// What planes hold, as the published Rust was given them: content 0 is flat, 1 a gradient, 2 noise, 3 saturated noise,
-// 4 a shifted copy and 5 plateaus.
-pub(crate) const CONTENTS: usize = 6;
+// What planes hold, as the published Rust was given them.
+#[derive(Clone, Copy, Debug, PartialEq, Eq)]
+pub(crate) enum Content {
+    Flat,
+    Gradient,
+    Noise,
+    Saturated,
+    Shifted,
+    Plateaus,
+}
+
+impl TryFrom<usize> for Content {
+    type Error = ();
+
+    fn try_from(column: usize) -> Result<Content, ()> {
+        match column {
+            0 => Ok(Content::Flat),
+            1 => Ok(Content::Gradient),
+            2 => Ok(Content::Noise),
+            3 => Ok(Content::Saturated),
+            4 => Ok(Content::Shifted),
+            5 => Ok(Content::Plateaus),
+            _ => Err(()),
+        }
+    }
+}
 
 // Seeds are below this.
 pub(crate) const SEEDS: usize = 65_536;
@@ -62,16 +85,16 @@ fn plateau(seed: usize, plane: usize, x: usize, y: usize) -> usize
 }
 
 // The sample in column x and row y of a padded plane, the current one (0) or the reference (1).
-pub(crate) fn value(content: usize, seed: usize, plane: usize, x: usize, y: usize) -> usize
+pub(crate) fn value(content: Content, seed: usize, plane: usize, x: usize, y: usize) -> usize
     requires { (seed < 65536) × (plane ≤ 1) × (x < 65536) × (y < 65536) }
     ensures { result < 256 }
 {
     match content {
-        0 => (seed + 5 * plane) % 256,
-        1 => gradient(seed, plane, x, y),
-        2 => noise(seed + SEEDS * plane, x, y),
-        3 => saturated(noise(seed + SEEDS * plane, x, y)),
-        4 => shifted(seed, plane, x, y),
-        _ => plateau(seed, plane, x, y),
+        Content::Flat => (seed + 5 * plane) % 256,
+        Content::Gradient => gradient(seed, plane, x, y),
+        Content::Noise => noise(seed + SEEDS * plane, x, y),
+        Content::Saturated => saturated(noise(seed + SEEDS * plane, x, y)),
+        Content::Shifted => shifted(seed, plane, x, y),
+        Content::Plateaus => plateau(seed, plane, x, y),
     }
 }

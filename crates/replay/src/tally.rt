@@ -1,8 +1,10 @@
 ghost use Rattle.std.specs.Prelude.{◌+◌, ◌^◌};
 ghost use Rattle.replay.specs.Tally.{Within};
 
+use std::ops::Add;
+
 // What became of a line.
-#[derive(Clone, Copy)]
+#[derive(Clone, Copy, Debug, PartialEq, Eq)]
 pub(crate) enum Outcome {
     Comment,
     Malformed,
@@ -11,18 +13,14 @@ pub(crate) enum Outcome {
 }
 
 // The lines passed, the cases among them, how many came out equal, and the first line that is malformed and that
-// differs, or 0.
+// differs.
 #[derive(Clone, Copy)]
 pub(crate) struct Tally {
     pub(crate) lines: u64,
     pub(crate) read: u64,
     pub(crate) equal: u64,
-    pub(crate) malformed: u64,
-    pub(crate) differs: u64,
-}
-
-fn first(line: u64, now: u64) -> u64 {
-    if line == 0 { now } else { line }
+    pub(crate) malformed: Option<u64>,
+    pub(crate) differs: Option<u64>,
 }
 
 impl Tally {
@@ -33,8 +31,8 @@ impl Tally {
             lines: 0,
             read: 0,
             equal: 0,
-            malformed: 0,
-            differs: 0,
+            malformed: None,
+            differs: None,
         }
     }
 
@@ -43,49 +41,47 @@ impl Tally {
         ensures { Within result (self.lines + 1) }
     {
         let line = self.lines + 1;
+        let passed = Tally {
+            lines: line,
+            ..self
+        };
+        let read = Tally {
+            read: self.read + 1,
+            ..passed
+        };
         match outcome {
-            Outcome::Comment => Tally {
-                lines: line,
-                read: self.read,
-                equal: self.equal,
-                malformed: self.malformed,
-                differs: self.differs,
-            },
+            Outcome::Comment => passed,
             Outcome::Malformed => Tally {
-                lines: line,
-                read: self.read + 1,
-                equal: self.equal,
-                malformed: first(self.malformed, line),
-                differs: self.differs,
+                malformed: self.malformed.or(Some(line)),
+                ..read
             },
             Outcome::Differs => Tally {
-                lines: line,
-                read: self.read + 1,
-                equal: self.equal,
-                malformed: self.malformed,
-                differs: first(self.differs, line),
+                differs: self.differs.or(Some(line)),
+                ..read
             },
             Outcome::Equal => Tally {
-                lines: line,
-                read: self.read + 1,
                 equal: self.equal + 1,
-                malformed: self.malformed,
-                differs: self.differs,
+                ..read
             },
         }
     }
+}
 
-    pub(crate) fn plus(self, other: Tally) -> Tally
-        requires within { Within self (2 ^ 62) }
-        requires within_2 { Within other (2 ^ 62) }
-        ensures { Within result (self.lines + other.lines) }
-    {
+// The lines of two files, of which none is the first.
+impl Add for Tally {
+    type Output = Tally;
+
+    ghost can_add = { λ a b. Within a (2 ^ 62) × Within b (2 ^ 62) };
+
+    ghost add_gives = { λ a b r. Within r (a.lines + b.lines) };
+
+    fn add(self, other: Tally) -> Tally {
         Tally {
             lines: self.lines + other.lines,
             read: self.read + other.read,
             equal: self.equal + other.equal,
-            malformed: 0,
-            differs: 0,
+            malformed: None,
+            differs: None,
         }
     }
 }
