@@ -1,112 +1,70 @@
-use crate::cases::{Call, Case};
-use crate::changes::{BEFORE, LENT_CELLS, SAD_BEFORE, report};
+use crate::cases::{Buffer, Call, Case};
+use crate::changes::{Cells, report};
 use inter::calls::lockdapple_frame_run;
 use steps::calls::lockdapple_superblock_step;
 
 // What the case lends of a buffer: its first elements, or all where there are no more.
-fn plane(all: &[u8], case: Case, buffer: usize) -> &[u8] {
-    let n = case.length(buffer);
-    if n <= all.len() {
-        return &all[0..n];
-    }
-    all
+fn lent<T>(all: &[T], case: Case, buffer: Buffer) -> &[T] {
+    &all[..case.length(buffer).min(all.len())]
 }
 
-fn vectors(all: &[i16], case: Case, buffer: usize) -> &[i16] {
-    let n = case.length(buffer);
-    if n <= all.len() {
-        return &all[0..n];
-    }
-    all
+fn lent_mut<T>(all: &mut [T], case: Case, buffer: Buffer) -> &mut [T] {
+    let n = case.length(buffer).min(all.len());
+    &mut all[..n]
 }
 
-fn sums(all: &[u32], case: Case, buffer: usize) -> &[u32] {
-    let n = case.length(buffer);
-    if n <= all.len() {
-        return &all[0..n];
-    }
-    all
-}
-
-fn vectors_mut(all: &mut [i16], case: Case, buffer: usize) -> &mut [i16] {
-    let n = case.length(buffer);
-    if n <= all.len() {
-        return &mut all[0..n];
-    }
-    all
-}
-
-fn sums_mut(all: &mut [u32], case: Case, buffer: usize) -> &mut [u32] {
-    let n = case.length(buffer);
-    if n <= all.len() {
-        return &mut all[0..n];
-    }
-    all
-}
-
-fn run(rt: &impl Print, case: Case, flat: &[u8], list: &[u16]) {
-    let present = case.present();
-    let prev = [0i16; LENT_CELLS];
-    let prev_sads = [0u32; LENT_CELLS];
-    let mut rows = [BEFORE; LENT_CELLS];
-    let mut cols = [BEFORE; LENT_CELLS];
-    let mut sads = [SAD_BEFORE; LENT_CELLS];
-    let code = lockdapple_frame_run(
+fn run(case: Case, flat: &[u8], list: &[u16], prev: &Cells, cells: &mut Cells) -> u32 {
+    lockdapple_frame_run(
         case.width,
         case.height,
-        plane(flat, case, 0),
-        plane(flat, case, 1),
-        plane(flat, case, 2),
-        plane(flat, case, 3),
-        plane(flat, case, 4),
-        plane(flat, case, 5),
-        present,
-        vectors(&prev, case, 6),
-        vectors(&prev, case, 7),
-        sums(&prev_sads, case, 8),
+        lent(flat, case, Buffer::Cur),
+        lent(flat, case, Buffer::CurHalf),
+        lent(flat, case, Buffer::CurQuarter),
+        lent(flat, case, Buffer::Reference),
+        lent(flat, case, Buffer::RefHalf),
+        lent(flat, case, Buffer::RefQuarter),
+        case.present(),
+        lent(&prev.rows, case, Buffer::PrevRows),
+        lent(&prev.cols, case, Buffer::PrevCols),
+        lent(&prev.sads, case, Buffer::PrevSads),
         list,
-        vectors_mut(&mut rows, case, 9),
-        vectors_mut(&mut cols, case, 10),
-        sums_mut(&mut sads, case, 11),
-    );
-    // Document 01's flat frame is the one without a previous grid.
-    report(rt, code, case.cells, present == 0, &rows, &cols, &sads);
+        lent_mut(&mut cells.rows, case, Buffer::Rows),
+        lent_mut(&mut cells.cols, case, Buffer::Cols),
+        lent_mut(&mut cells.sads, case, Buffer::Sads),
+    )
 }
 
-fn step(rt: &impl Print, level: usize, case: Case, flat: &[u8]) {
-    let prev = [0i16; LENT_CELLS];
-    let prev_sads = [0u32; LENT_CELLS];
-    let mut rows = [BEFORE; LENT_CELLS];
-    let mut cols = [BEFORE; LENT_CELLS];
-    let mut sads = [SAD_BEFORE; LENT_CELLS];
-    let code = lockdapple_superblock_step(
+fn step(level: usize, case: Case, flat: &[u8], prev: &Cells, cells: &mut Cells) -> u32 {
+    lockdapple_superblock_step(
         case.width,
         case.height,
         level,
         0,
-        plane(flat, case, 0),
-        plane(flat, case, 1),
-        plane(flat, case, 2),
-        plane(flat, case, 3),
-        plane(flat, case, 4),
-        plane(flat, case, 5),
+        lent(flat, case, Buffer::Cur),
+        lent(flat, case, Buffer::CurHalf),
+        lent(flat, case, Buffer::CurQuarter),
+        lent(flat, case, Buffer::Reference),
+        lent(flat, case, Buffer::RefHalf),
+        lent(flat, case, Buffer::RefQuarter),
         case.present(),
-        vectors(&prev, case, 6),
-        vectors(&prev, case, 7),
-        sums(&prev_sads, case, 8),
-        vectors_mut(&mut rows, case, 9),
-        vectors_mut(&mut cols, case, 10),
-        sums_mut(&mut sads, case, 11),
-    );
-    report(rt, code, case.cells, false, &rows, &cols, &sads);
+        lent(&prev.rows, case, Buffer::PrevRows),
+        lent(&prev.cols, case, Buffer::PrevCols),
+        lent(&prev.sads, case, Buffer::PrevSads),
+        lent_mut(&mut cells.rows, case, Buffer::Rows),
+        lent_mut(&mut cells.cols, case, Buffer::Cols),
+        lent_mut(&mut cells.sads, case, Buffer::Sads),
+    )
 }
 
-// Makes the case's call on a grid of its own, and prints its line.
+// Makes the case's call on a grid of its own, and prints its line. The call is a value and no closure, since the line says
+// which it is.
 pub(crate) fn tried(rt: &impl Print, case: Case, flat: &[u8], list: &[u16]) {
     case.say(rt);
-    let call = case.call;
-    match call {
-        Call::Run => run(rt, case, flat, list),
-        Call::Step(level) => step(rt, level, case, flat),
-    }
+    let prev = Cells::new(0, 0);
+    let mut cells = Cells::before();
+    let code = match case.call {
+        Call::Run => run(case, flat, list, &prev, &mut cells),
+        Call::Step(level) => step(level, case, flat, &prev, &mut cells),
+    };
+    report(rt, code, case, &cells);
 }

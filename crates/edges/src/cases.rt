@@ -15,11 +15,75 @@ const CELLS: usize = 4;
 // No plane of a frame that is tried is longer: that of 1032 by 8 at full size.
 pub(crate) const LONGEST: usize = (1032 + 2 * 48) * (8 + 2 * 48);
 
-// The buffers are numbered in the order of the parameters.
-pub(crate) const BUFFERS: usize = 12;
+#[derive(Clone, Copy, Debug, PartialEq, Eq)]
+pub(crate) enum Buffer {
+    Cur,
+    CurHalf,
+    CurQuarter,
+    Reference,
+    RefHalf,
+    RefQuarter,
+    PrevRows,
+    PrevCols,
+    PrevSads,
+    Rows,
+    Cols,
+    Sads,
+}
+
+// The buffers in the order of the parameters.
+pub(crate) const BUFFERS: [Buffer; 12] = [
+    Buffer::Cur,
+    Buffer::CurHalf,
+    Buffer::CurQuarter,
+    Buffer::Reference,
+    Buffer::RefHalf,
+    Buffer::RefQuarter,
+    Buffer::PrevRows,
+    Buffer::PrevCols,
+    Buffer::PrevSads,
+    Buffer::Rows,
+    Buffer::Cols,
+    Buffer::Sads,
+];
+
+impl Buffer {
+    // What an 8 by 8 frame needs of it.
+    fn needed(self) -> usize
+        ensures { 0 < result }
+    {
+        match self {
+            Buffer::Cur | Buffer::Reference => FULL,
+            Buffer::CurHalf | Buffer::RefHalf => HALF,
+            Buffer::CurQuarter | Buffer::RefQuarter => QUARTER,
+            _ => CELLS,
+        }
+    }
+
+    fn is_previous(self) -> bool {
+        matches!(self, Buffer::PrevRows | Buffer::PrevCols | Buffer::PrevSads)
+    }
+
+    fn name(self) -> &'static [u8] {
+        match self {
+            Buffer::Cur => b"cur         ",
+            Buffer::CurHalf => b"cur_half    ",
+            Buffer::CurQuarter => b"cur_quarter ",
+            Buffer::Reference => b"reference   ",
+            Buffer::RefHalf => b"ref_half    ",
+            Buffer::RefQuarter => b"ref_quarter ",
+            Buffer::PrevRows => b"prev_rows   ",
+            Buffer::PrevCols => b"prev_cols   ",
+            Buffer::PrevSads => b"prev_sads   ",
+            Buffer::Rows => b"rows        ",
+            Buffer::Cols => b"cols        ",
+            Buffer::Sads => b"sads        ",
+        }
+    }
+}
 
 // A step is that of superblock 0 at a level.
-#[derive(Clone, Copy)]
+#[derive(Clone, Copy, Debug, PartialEq, Eq)]
 pub(crate) enum Call {
     Run,
     Step(usize),
@@ -27,11 +91,11 @@ pub(crate) enum Call {
 
 // How long the buffers are: longer than needed, or as an 8 by 8 frame needs them, but for one that is an element shorter
 // or for the three of a previous grid that is absent, which are empty.
-#[derive(Clone, Copy)]
+#[derive(Clone, Copy, Debug, PartialEq, Eq)]
 pub(crate) enum Lent {
     Longer,
     Exact,
-    Short(usize),
+    Short(Buffer),
     NoPrevious,
 }
 
@@ -44,76 +108,26 @@ pub(crate) struct Case {
     pub(crate) lent: Lent,
 }
 
-// What an 8 by 8 frame needs of a buffer.
-fn needed(buffer: usize) -> usize
-    ensures { 0 < result }
-{
-    match buffer {
-        0 | 3 => FULL,
-        1 | 4 => HALF,
-        2 | 5 => QUARTER,
-        _ => CELLS,
-    }
-}
-
-// Name k of six, cut from one text: a `match` with a text in each arm is slow to check.
-fn name_in(rt: &impl Print, names: &[u8], k: usize) {
-    if k < 6 {
-        let from = 12 * k;
-        let to = from + 12;
-        if to <= names.len() {
-            text(rt, &names[from..to]);
-        }
-    }
-}
-
-fn name(rt: &impl Print, buffer: usize) {
-    if buffer < 6 {
-        name_in(
-            rt,
-            b"cur         cur_half    cur_quarter reference   ref_half    ref_quarter ",
-            buffer,
-        );
-    } else {
-        name_in(
-            rt,
-            b"prev_rows   prev_cols   prev_sads   rows        cols        sads        ",
-            buffer - 6,
-        );
-    }
-}
-
 impl Case {
-    pub(crate) fn length(self, buffer: usize) -> usize {
-        let lent = self.lent;
-        match lent {
+    pub(crate) fn length(self, buffer: Buffer) -> usize {
+        match self.lent {
             Lent::Longer => LONGEST,
-            Lent::Exact => needed(buffer),
-            Lent::Short(short) => {
-                if short == buffer {
-                    return needed(buffer) - 1;
-                }
-                needed(buffer)
-            }
-            Lent::NoPrevious => match buffer {
-                6..=8 => 0,
-                _ => needed(buffer),
-            },
+            Lent::Short(short) if short == buffer => buffer.needed() - 1,
+            Lent::NoPrevious if buffer.is_previous() => 0,
+            _ => buffer.needed(),
         }
     }
 
     pub(crate) fn present(self) -> usize {
-        let lent = self.lent;
-        if let Lent::NoPrevious = lent { 0 } else { 1 }
+        usize::from(self.lent != Lent::NoPrevious)
     }
 
     fn say_lent(self, rt: &impl Print) {
-        let lent = self.lent;
-        match lent {
+        match self.lent {
             Lent::Longer => text(rt, b"every buffer longer"),
             Lent::Exact => text(rt, b"exactly full"),
             Lent::Short(buffer) => {
-                name(rt, buffer);
+                text(rt, buffer.name());
                 text(rt, b"one short");
             }
             Lent::NoPrevious => text(rt, b"no previous grid"),
@@ -122,8 +136,7 @@ impl Case {
 
     // The start of the case's line.
     pub(crate) fn say(self, rt: &impl Print) {
-        let call = self.call;
-        match call {
+        match self.call {
             Call::Run => text(rt, b"run"),
             Call::Step(level) => labelled(rt, b"step level ", level as u64),
         }

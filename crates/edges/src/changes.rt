@@ -1,27 +1,24 @@
-ghost use Rattle.std.specs.Prelude.{◌≤◌};
+ghost use Rattle.std.specs.Prelude.{◌≤◌, ◌<◌};
 
+use crate::cases::{Call, Case, Lent};
 use print::{grid, labelled, text};
 
 // One cell more than the largest frame that is tried has, 1032 by 8.
-pub(crate) const LENT_CELLS: usize = 517;
+const LENT_CELLS: usize = 517;
 
 // What a component of a cell holds before a call: a step has a window round it, and it is odd, as nothing is that a level
 // saves on a flat frame.
-pub(crate) const BEFORE: i16 = 97;
+const BEFORE: i16 = 97;
 
 // What a SAD holds before a call; on a flat frame all are 0.
-pub(crate) const SAD_BEFORE: u32 = 97;
+const SAD_BEFORE: u32 = 97;
 
-fn one_if(holds: bool) -> u64
-    ensures { result ≤ 1 }
-{
-    if holds { 1 } else { 0 }
-}
-
-fn changed(row: i16, col: i16, sad: u32) -> u64
-    ensures { result ≤ 3 }
-{
-    one_if(row != BEFORE) + one_if(col != BEFORE) + one_if(sad != SAD_BEFORE)
+// The cells of which a call is lent the first.
+#[derive(Drop)]
+pub(crate) struct Cells {
+    pub(crate) rows: [i16; LENT_CELLS],
+    pub(crate) cols: [i16; LENT_CELLS],
+    pub(crate) sads: [u32; LENT_CELLS],
 }
 
 // How many numbers of the grid changed: of the frame's cells, and of those past them.
@@ -31,43 +28,52 @@ struct Changes {
     past: u64,
 }
 
-fn counted(
-    cells: usize,
-    rows: &[i16; LENT_CELLS],
-    cols: &[i16; LENT_CELLS],
-    sads: &[u32; LENT_CELLS],
-) -> Changes {
-    let mut written: u64 = 0;
-    let mut past: u64 = 0;
-    let mut i = 0;
-    while i < LENT_CELLS {
-        let n = changed(rows[i], cols[i], sads[i]);
-        if i < cells {
-            written += n;
-        } else {
-            past += n;
+impl Cells {
+    pub(crate) fn new(component: i16, sad: u32) -> Cells {
+        Cells {
+            rows: [component; LENT_CELLS],
+            cols: [component; LENT_CELLS],
+            sads: [sad; LENT_CELLS],
         }
-        i += 1;
     }
-    Changes { written, past }
+
+    pub(crate) fn before() -> Cells {
+        Cells::new(BEFORE, SAD_BEFORE)
+    }
+
+    fn changed(&self, i: usize) -> u64
+        requires { i < 517 }
+        ensures { result ≤ 3 }
+    {
+        u64::from(self.rows[i] != BEFORE)
+            + u64::from(self.cols[i] != BEFORE)
+            + u64::from(self.sads[i] != SAD_BEFORE)
+    }
+
+    fn changes(&self, cells: usize) -> Changes {
+        let mut changes = Changes {
+            written: 0,
+            past: 0,
+        };
+        for i in 0..LENT_CELLS {
+            if i < cells {
+                changes.written += self.changed(i);
+            } else {
+                changes.past += self.changed(i);
+            }
+        }
+        changes
+    }
 }
 
-// The end of a case's line, and the grid of an 8 by 8 frame where it is to be shown.
-pub(crate) fn report(
-    rt: &impl Print,
-    code: u32,
-    cells: usize,
-    shown: bool,
-    rows: &[i16; LENT_CELLS],
-    cols: &[i16; LENT_CELLS],
-    sads: &[u32; LENT_CELLS],
-) {
-    let n = counted(cells, rows, cols, sads);
+// The end of a case's line, and the grid that document 01 lists: that of the run without a previous one.
+pub(crate) fn report(rt: &impl Print, code: u32, case: Case, cells: &Cells) {
+    let changes = cells.changes(case.cells);
     labelled(rt, b": ", code as u64);
-    labelled(rt, b", ", n.written);
-    labelled(rt, b" written, ", n.past);
+    labelled(rt, b", ", changes.written);
+    labelled(rt, b" written, ", changes.past);
     text(rt, b" past\n");
-    if shown {
-        grid(rt, 2, 4, rows, cols, sads);
+    if case.call == Call::Run && case.lent == Lent::NoPrevious {
+        grid(rt, 2, 4, &cells.rows, &cells.cols, &cells.sads);
     }
 }

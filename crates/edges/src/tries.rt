@@ -9,7 +9,6 @@ fn sized(rt: &impl Print, call: Call, width: usize, height: usize, side: usize, 
     requires { side ≤ 1032 }
 {
     let raster = [0u16, 1, 2, 3, 4, 5, 6, 7, 8, 9, 10, 11, 12, 13, 14, 15, 16];
-    let superblocks = (side + 63) / 64;
     let case = Case {
         call,
         width,
@@ -17,7 +16,7 @@ fn sized(rt: &impl Print, call: Call, width: usize, height: usize, side: usize, 
         cells: side / 4 * 2,
         lent: Lent::Longer,
     };
-    tried(rt, case, flat, &raster[0..superblocks]);
+    tried(rt, case, flat, &raster[..side.div_ceil(64)]);
 }
 
 fn sides(rt: &impl Print, call: Call, flat: &[u8]) {
@@ -44,26 +43,17 @@ fn eight_by_eight(rt: &impl Print, call: Call, lent: Lent, flat: &[u8]) {
     tried(rt, case, flat, &list);
 }
 
-fn each_short(rt: &impl Print, call: Call, flat: &[u8]) {
-    let mut buffer = 0;
-    while buffer < BUFFERS {
-        eight_by_eight(rt, call, Lent::Short(buffer), flat);
-        buffer += 1;
-    }
-}
-
 fn edges_of(rt: &impl Print, call: Call, flat: &[u8]) {
     sides(rt, call, flat);
     eight_by_eight(rt, call, Lent::Exact, flat);
     eight_by_eight(rt, call, Lent::NoPrevious, flat);
-    each_short(rt, call, flat);
+    for buffer in BUFFERS {
+        eight_by_eight(rt, call, Lent::Short(buffer), flat);
+    }
 }
 
-// A list of two superblocks that lie side by side, or its first `count`.
-fn listed(rt: &impl Print, first: u16, second: u16, count: usize, flat: &[u8])
-    requires { count ≤ 2 }
-{
-    let list = [first, second];
+// A list of superblocks of a frame that has two side by side.
+fn listed(rt: &impl Print, list: &[u16], flat: &[u8]) {
     let case = Case {
         call: Call::Run,
         width: 128,
@@ -71,28 +61,25 @@ fn listed(rt: &impl Print, first: u16, second: u16, count: usize, flat: &[u8])
         cells: 64,
         lent: Lent::Longer,
     };
-    if count == 0 {
-        text(rt, b"list empty, ");
-    } else {
-        labelled(rt, b"list ", first as u64);
-        labelled(rt, b" ", second as u64);
-        text(rt, b", ");
+    text(rt, b"list");
+    if list.is_empty() {
+        text(rt, b" empty");
     }
-    tried(rt, case, flat, &list[0..count]);
-}
-
-// The lists of document 01's case E10.
-fn lists(rt: &impl Print, flat: &[u8]) {
-    listed(rt, 0, 1, 2, flat);
-    listed(rt, 1, 0, 2, flat);
-    listed(rt, 0, 0, 2, flat);
-    listed(rt, 0, 0, 0, flat);
+    for superblock in list {
+        labelled(rt, b" ", *superblock as u64);
+    }
+    text(rt, b", ");
+    tried(rt, case, flat, list);
 }
 
 pub(crate) fn all(rt: &impl Print, flat: &[u8; LONGEST]) {
     edges_of(rt, Call::Run, flat);
-    edges_of(rt, Call::Step(4), flat);
-    edges_of(rt, Call::Step(3), flat);
-    edges_of(rt, Call::Step(2), flat);
-    lists(rt, flat);
+    for level in [4, 3, 2] {
+        edges_of(rt, Call::Step(level), flat);
+    }
+    // The lists of document 01's case E10.
+    listed(rt, &[0, 1], flat);
+    listed(rt, &[1, 0], flat);
+    listed(rt, &[0, 0], flat);
+    listed(rt, &[], flat);
 }
