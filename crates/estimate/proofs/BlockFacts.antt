@@ -1,13 +1,16 @@
 -- What holds of every block that a level searches or refines, and of what its search hands back. Assumes nothing.
-use mathlib.Core.Path.{◌≡◌, refl, sym, ap, subst, ◌∙◌}
-use mathlib.Core.Bool.{Bool, true, false, cond}
+use mathlib.Core.Path.{◌≡◌, refl, sym, ap, ap₂, subst, ◌∙◌}
+use mathlib.Core.Bool.{Bool, true, false, cond, ◌&&◌, ◌||◌}
+use mathlib.Core.Logic.{⊎_elim}
 use mathlib.Core.List.{List}
-use Prim.Native.Nat.{ℕ, ◌*◌, ◌^◌, ◌≤◌, ◌<◌}
+use Prim.Native.Nat.{ℕ, zero, suc, ◌*◌, ◌^◌, ◌≤◌, ◌<◌}
 use native.Mathlib.Nat.{le_trans, mul_assoc}
 use native.Mathlib.Omega.{arith}
-use borrow.Author.Tests.{le-ltb}
+use borrow.Author.Tests.{le-ltb, eqb-true}
 use lib.Dec.{ltb, eqb}
-use lib.ListN.{length, get_or}
+use lib.ListN.{length, get_or, take}
+use Rattle.std.proofs.lemmas.List.{length-take-le, get_or-take}
+use Rattle.ground.proofs.TestLaws.{both, either as one_of}
 use Rattle.motion.specs.declared.block.Block.{Block}
 use Rattle.motion.specs.declared.level.Level.{Level}
 use Rattle.motion.specs.declared.vector.MotionVector.{MotionVector}
@@ -17,10 +20,11 @@ use Rattle.motion.specs.Range.{in_range}
 use Rattle.motion.specs.Level.{level_of}
 use Rattle.motion.specs.Frame.{Side, Starts, Sized, own4, own3, own2, refined3, refined2}
 use Rattle.motion.specs.Block.{block_of, weighed}
-use Rattle.motion.proofs.BlockLaws.{zero-in_range, shl_fits, some-columns, some-rows}
+use Rattle.motion.proofs.BlockLaws.{zero-in_range, Straddles, straddles, shl_fits, some-columns, some-rows}
 use Rattle.motion.proofs.LevelLaws.{each_level}
 use Rattle.grid.specs.Grid.{cells, cell_at}
 use Rattle.grid.proofs.CellLaws.{cell-inside}
+use Rattle.refusal.specs.Refusals.{level_ok}
 use Rattle.sad.specs.declared.rd.MVCandidateRD.{MVCandidateRD}
 use Rattle.sad.specs.Asked.{Measured, Lies}
 use Rattle.sad.specs.Cost.{rd_of, rd_at}
@@ -28,14 +32,41 @@ use Rattle.sad.proofs.Sums.{Under}
 use Rattle.sad.proofs.Contained.{lies, weighed-lies}
 use Rattle.sad.proofs.CostLaws.{rd_in, sad-area}
 use Rattle.search.specs.declared.result.MotionSearchResult.{MotionSearchResult}
-use Rattle.search.specs.Result.{CostOf, empty_result, cheaper, try_one}
+use Rattle.search.specs.Result.{CostOf, empty_result, cheaper, try_one, try_each}
+use Rattle.search.specs.Diamond.{diamond}
 use Rattle.search.proofs.LeastLaws.{least-each, least-tried, least-cheaper, least-diamond, least-multi}
 use Rattle.search.proofs.FoundLaws.{LooseKept, Settled, loose_empty, loose_one, loose_each, loose_cheaper, loose_diamond, loose_multi, settled}
 use Rattle.predict.specs.declared.predictors.MotionEstimationSubsets.{MotionEstimationSubsets}
 use Rattle.predict.proofs.SubsetLaws.{Sound}
+use Rattle.estimate.specs.declared.inputs.LevelInputs.{LevelInputs}
 use Rattle.estimate.specs.Inputs.{Inputs}
-use Rattle.estimate.specs.Asked.{four, three, two, Leveled, Ready, Listed, Honest}
-use Rattle.estimate.specs.Block.{try_mvs, try_cands, short_search, extensive_search, full_pixel_me}
+use Rattle.estimate.specs.Lent.{inputs_lent}
+use Rattle.estimate.specs.Asked.{four, three, two, Leveled, Samples, Ready, Listed, Honest}
+use Rattle.estimate.specs.Block.{block_in, try_mvs, try_cands, short_search, extensive_search, full_pixel_me}
+
+-- the levels of refusal 2, where nothing is refined
+pub leveled-of : (level : ℕ) → level_ok level 0 ≡ true → Leveled level
+unfolding level_ok
+leveled-of level h =
+    ⊎_elim (λ e. at 2 e two)
+    (λ r.
+    ⊎_elim (λ e. at 3 e three) (λ q. at 4 (both (eqb level 4) true q).0 four)
+    (one_of (eqb level 3) (eqb level 4 && true) r))
+    (one_of (eqb level 2) (eqb level 3 || (eqb level 4 && true)) h)
+  where
+    at : (n : ℕ) → eqb level n ≡ true → Leveled n → Leveled level
+    at n e l = subst Leveled (sym (eqb-true level n e)) l
+
+-- what is lent to a level has passed every test
+pub ready : (i : LevelInputs) → Ready (inputs_lent i)
+ready i =
+    record {
+      wide = i.wide;
+      high = i.high;
+      leveled = leveled-of i.level i.leveled;
+      cur = i.cur_held;
+      ref = i.reference_held;
+    }
 
 -- a level's own size and its refined one are sizes of the table
 pub own-sized : {level : ℕ} → Leveled level → Sized (level_of level) (level_of level).mv_size
@@ -72,7 +103,8 @@ listed s = record { b-few = s.b-most; c_few = s.c_most; b-slots = s.b-slots; c_s
 abbrev pub Saves : Level → Block → MotionSearchResult → Type 0
 Saves l b best =
     ((l.ssdec < 16) × FitsV (shl_v best.mv l.ssdec))
-    × ((0 < b.w) × (b.w ≤ 64) × (0 < b.h) × (b.h ≤ 64) × (best.rd.sad ≤ largest_sample * (b.w * b.h)))
+    × ((0 < b.w) × (b.w ≤ 64) × (0 < b.h) × (b.h ≤ 64))
+    × (best.rd.sad ≤ largest_sample * (b.w * b.h))
 
 -- a block of either size at a cell of the frame
 module _ {i : Inputs} (ready : Ready i) {size bx by : ℕ} (sized : Sized (level_of i.level) size) (across : Starts i.width size bx) (down : Starts i.height size by) where
@@ -83,28 +115,36 @@ module _ {i : Inputs} (ready : Ready i) {size bx by : ℕ} (sized : Sized (level
       (weighed-lies i.weight (there (length i.cur) ready.cur), weighed-lies i.weight (there (length i.ref) ready.ref))
 
   -- has the zero vector in range
-  pub block_zero : in_range (block_of i.width i.height (level_of i.level) size bx by).range zero_v ≡ true
+  pub block_zero : in_range (block_in i size bx by).range zero_v ≡ true
+  unfolding block_in
   block_zero = zero-in_range sized ready.wide ready.high across down
 
+  pub block_straddles : Straddles (block_in i size bx by).range
+  unfolding block_in
+  block_straddles = straddles sized ready.wide ready.high across down
+
+  pub block_measured : Measured (block_in i size bx by)
+  unfolding block_in
+  block_measured = block_lies.0.measured
+
   -- and of a settled record it saves what fits
-  pub block_saves : {l : Level} {b : Block} {best : MotionSearchResult} → l ≡ level_of i.level → b ≡ weighed (block_of i.width i.height (level_of i.level) size bx by) i.weight → Under largest_sample i.cur → Under largest_sample i.ref → Settled (weighed (block_of i.width i.height (level_of i.level) size bx by) i.weight) i.cur i.ref best → Saves l b best
-  unfolding rd_of
-  block_saves {l} {b} {best} e f hc hr s =
+  pub block_saves : {best : MotionSearchResult} → Samples i.cur → Samples i.ref → Settled (block_in i size bx by) i.cur i.ref best → Saves (level_of i.level) (block_in i size bx by) best
+  unfolding rd_of block_in
+  block_saves {best} hc hr s =
       let here = weighed (block_of i.width i.height (level_of i.level) size bx by) i.weight in
       let m = block_lies.0.measured in
       let own = ap (λ (r : MVCandidateRD). r.sad) (s.own ∙ rd_in here i.cur i.ref best.mv s.in_range_lem) in
-      let area = sad-area here i.cur i.ref best.mv hc hr in
-      let saves : Saves (level_of i.level) here best = (
+      let area = sad-area here i.cur i.ref best.mv hc hr in (
         ((level-most i.level).0, shl_fits sized ready.wide ready.high across down best.mv s.in_range_lem),
-        (
-          some-columns sized ready.wide ready.high across down,
-          m.wide,
-          some-rows sized ready.wide ready.high across down,
-          m.high,
-          omega (arith, own, area, mul_assoc largest_sample here.w here.h),
-        ),
-      ) in
-      subst (λ (x : Level). Saves x b best) (sym e) (subst (λ (x : Block). Saves (level_of i.level) x best) (sym f) saves)
+        (some-columns sized ready.wide ready.high across down, m.wide, some-rows sized ready.wide ready.high across down, m.high),
+        omega (arith, own, area, mul_assoc largest_sample here.w here.h),
+      )
+
+-- vectors that are equal one by one
+each_same : (rd : CostOf) (best : MotionSearchResult) (n : ℕ) (vs ws : ℕ → MotionVector) → ((k : ℕ) → k < n → vs k ≡ ws k) → try_each rd best n vs ≡ try_each rd best n ws
+unfolding try_each
+each_same rd best zero vs ws same = refl
+each_same rd best (suc n) vs ws same = ap₂ (try_one rd) (each_same rd best n vs ws (λ k below. same k (omega arith))) (same n (omega arith))
 
 -- a vector tried again changes nothing
 pub tried_again : (rd : CostOf) (best : MotionSearchResult) (v : MotionVector) → best.mv ≡ v → best.rd ≡ rd best.mv → best ≡ try_one rd best v
@@ -121,6 +161,16 @@ honest_one rd best v h = by (ltb (rd v).cost best.rd.cost)
     by : (t : Bool) → Honest rd (cond t (record { mv = v; rd = rd v }) best)
     by true = λ less. refl
     by false = h
+
+-- the first vectors of a list, as a slice of it
+pub try_taken : (rd : CostOf) (best : MotionSearchResult) (mvs : List MotionVector) (count : ℕ) → count ≤ length mvs → try_mvs rd best (take count mvs) (length (take count mvs)) ≡ try_mvs rd best mvs count
+unfolding try_mvs
+try_taken rd best mvs count few =
+    rw (length-take-le count mvs few) (each_same rd best count (λ k. get_or (take count mvs) k zero_v) (λ k. get_or mvs k zero_v) (λ k below. get_or-take count mvs k zero_v below))
+
+pub cands_taken : (rd : CostOf) (mvs : List MotionVector) (count : ℕ) → count ≤ length mvs → try_cands rd (take count mvs) (length (take count mvs)) ≡ try_cands rd mvs count
+unfolding try_cands
+cands_taken rd mvs count few = ap (diamond rd) (try_taken rd empty_result mvs count few)
 
 module _ (b : Block) (cur ref : List ℕ) where
   -- what a list and the searches make of an empty best is in range, if zero is

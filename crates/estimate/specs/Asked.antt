@@ -1,5 +1,6 @@
 -- What inner functions ask of their callers: no rule of the documents.
-use Rattle.std.specs.Prelude.{◌≡◌, List, ℕ, ◌-◌, ◌*◌, ◌^◌, ◌≤◌, ◌<◌, length}
+use Rattle.std.specs.Prelude.{◌≡◌, List, ℕ, ◌-◌, ◌*◌, ◌^◌, ◌≤◌, ◌<◌, length, get_or}
+use Rattle.motion.specs.Limits.{largest_sample}
 use Rattle.motion.specs.Frame.{Side}
 use Rattle.motion.specs.Level.{level_of}
 use Rattle.motion.specs.Block.{plane_of}
@@ -20,6 +21,10 @@ abbrev pub PlaneHeld : (width height level : ℕ) (plane : List ℕ) → Type 0
 PlaneHeld width height level plane =
     (plane_of width height (level_of level)).stride * (plane_of width height (level_of level)).rows ≤ length plane
 
+-- the samples of a plane are bytes, so that their differences add up to no more than this a sample
+abbrev pub Samples : List ℕ → Type 0
+Samples plane = (i : ℕ) → get_or plane i 0 ≤ largest_sample
+
 -- inputs that no test refuses
 pub record Ready (i : Inputs) : Type 0 where
   pub wide : Side i.width
@@ -28,7 +33,7 @@ pub record Ready (i : Inputs) : Type 0 where
   pub cur : PlaneHeld i.width i.height i.level i.cur
   pub ref : PlaneHeld i.width i.height i.level i.ref
 
--- both lists of a predictor record are in five slots
+-- both lists of a predictor record are in five slots; no ghost field of it, since the definition `subsets_of` builds the record
 pub record Listed (p : MotionEstimationSubsets) : Type 0 where
   pub b-few : p.b_count ≤ slots
   pub c_few : p.c_count ≤ slots

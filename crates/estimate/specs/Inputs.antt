@@ -1,8 +1,5 @@
 -- What a block, a step and a level work with besides the grid.
 use Rattle.std.specs.Prelude.{cond, List, ℕ, eqb}
-use Rattle.grid.specs.Grid.{Grid}
-use Rattle.grid.specs.Previous.{Previous, previous_of}
-use Rattle.estimate.specs.declared.step.Frame.{Frame}
 
 -- the frame, the level, the current and the reference plane of that level, and the weight
 pub record Inputs : Type 0 where
@@ -16,13 +13,6 @@ pub record Inputs : Type 0 where
 abbrev pub inputs_of : (width height level : ℕ) (cur ref : List ℕ) (weight : ℕ) → Inputs
 inputs_of width height level cur ref weight =
     record { width = width; height = height; level = level; cur = cur; ref = ref; weight = weight }
-
--- what a level of a run works with, and a previous grid in it
-abbrev pub inputs_in : Frame → ℕ → List ℕ → List ℕ → Inputs
-inputs_in f level cur ref = inputs_of f.width f.height level cur ref f.weight
-
-abbrev pub previous_in : Frame → Grid → Previous
-previous_in f prev = previous_of f.present prev
 
 -- six planes are lent: current and reference at full, half and quarter size
 pub record Planes : Type 0 where

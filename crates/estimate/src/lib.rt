@@ -1,5 +1,7 @@
-// The search and the refinement of one block, and what a step and a run work with.
+// The search and the refinement of one block, and what a level of a run works with.
 #![tactic(auto)]
 
 pub mod block;
-pub mod step;
+pub mod inputs;
+pub mod planes;
+mod searched;

@@ -26,7 +26,7 @@ pub returns : goal.returns
 unfolding stats_of
 returns c =
     let sad = ap (λ (n : ℕ). n / (c.args.w * c.args.h)) (shifted (goal.at.returns c).Start) in
-    λ i. record { mv = c.shl-mv.ensures i; normalized_sad = sad i }
+    λ i. record { mv = c.shl.ensures i; normalized_sad = sad i }
 
 pub overflow_cast-result-2 : goal.overflow_cast-result-2
 overflow_cast-result-2 c =
