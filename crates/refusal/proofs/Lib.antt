@@ -1,3 +1,4 @@
 -- Laws that several proofs and other crates cite.
 pub mod RefusalLaws
+pub mod KindsLaws
 pub mod GridsLaws

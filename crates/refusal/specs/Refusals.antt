@@ -1,9 +1,10 @@
 -- The tests behind the refusals, of sides, level, block, planes and grid; the first that fails is the one that is given.
-use Rattle.std.specs.Prelude.{ℕ, zero, suc, ◌*◌, ◌/◌, ◌%◌, Bool, ◌&&◌, ◌||◌, cond, leb, ltb, eqb}
+use Rattle.std.specs.Prelude.{ℕ, zero, suc, ◌*◌, ◌/◌, ◌%◌, Bool, ◌&&◌, ◌||◌, not, cond, leb, ltb, eqb}
 use Rattle.motion.specs.Limits.{side_step, largest_side, cell_side}
 use Rattle.motion.specs.Level.{level_of}
 use Rattle.motion.specs.Block.{plane_of}
-use Rattle.grid.specs.Grid.{cells}
+use Rattle.grid.specs.Grid.{cells, room}
+use Rattle.grid.specs.Previous.{Previous}
 
 -- a test that refuses with a number where it does not pass
 unfoldable pub refuse : ℕ → Bool → ℕ
@@ -59,3 +60,7 @@ grid_ok width height n = leb (cells width height) n
 -- 5: nor is a previous grid that is said to be present, with room for m; `present` is 0 for an absent one
 unfoldable pub grids_hold : (width height present m n : ℕ) → Bool
 grids_hold width height present m n = grid_ok width height n && (eqb present 0 || grid_ok width height m)
+
+-- the same of a previous grid that is there or not
+unfoldable pub grids_fit : (width height : ℕ) → Previous → (n : ℕ) → Bool
+grids_fit width height prev n = grid_ok width height n && (not prev.present || grid_ok width height (room prev.grid))

@@ -1,87 +1,36 @@
-ghost use Rattle.std.specs.Prelude.{◌≡◌, ◌≤◌};
+ghost use Rattle.std.specs.Prelude.{◌≡◌, ◌≤◌, ◌<◌};
 ghost use Rattle.motion.specs.Limits.{largest_side};
-ghost use Rattle.refusal.specs.Refusals.{side_ok, level_ok, size_of, start_ok, plane_ok, block_refusal, planes_refusal, call_refusal, grid_ok, grids_hold};
+ghost use Rattle.grid.specs.Lent.{previous_lent};
+ghost use Rattle.refusal.specs.Kinds.{code_of};
+ghost use Rattle.refusal.specs.Refusals.{side_ok, level_ok, size_of, start_ok, plane_ok, block_refusal, planes_refusal, call_refusal, grid_ok, grids_fit};
 
+use crate::kinds::Refusal;
+use grid::lent::GridRef;
 use motion::block::plane_of;
 use motion::level::level_of;
 use motion::limits::{CELL_SIDE, LARGEST_SIDE, SIDE_STEP};
 
+#[tactic(auto, unfolding(crate::specs::Refusals::side_ok))]
 pub fn side_ok(side: usize) -> bool
     ensures { result ≡ side_ok side }
 {
-    if side % SIDE_STEP != 0 {
-        return false;
-    }
-    if side < SIDE_STEP {
-        return false;
-    }
-    side <= LARGEST_SIDE
+    side % SIDE_STEP == 0 && SIDE_STEP <= side && side <= LARGEST_SIDE
 }
 
-// `refined` is 0 for a level's own block, anything else for the block that it refines first.
+// `refined` is 0 for a level's own block, anything else for the block that it refines first: the C interface passes such a number.
+#[tactic(auto, unfolding(crate::specs::Refusals::level_ok))]
 pub fn level_ok(level: usize, refined: usize) -> bool
     ensures { result ≡ level_ok level refined }
 {
-    if level == 2 {
-        return true;
-    }
-    if level == 3 {
-        return true;
-    }
-    if level != 4 {
-        return false;
-    }
-    refined == 0
+    level == 2 || level == 3 || (level == 4 && refined == 0)
 }
 
-pub fn size_of(level: usize, refined: usize) -> usize
-    ensures { result ≡ size_of level refined }
+#[tactic(auto, unfolding(crate::specs::Refusals::start_ok))]
+fn start_ok(side: usize, size: usize, b: usize) -> bool
+    requires { 0 < size }
+    ensures { result ≡ start_ok side size b }
 {
-    let row = level_of(level);
-    if refined == 0 {
-        row.mv_size
-    } else {
-        row.refined
-    }
-}
-
-fn start_ok(side: usize, level: usize, refined: usize, b: usize) -> bool
-    requires { side ≤ largest_side }
-    ensures { result ≡ start_ok side (size_of level refined) b }
-{
-    if side / CELL_SIDE <= b {
-        return false;
-    }
-    (CELL_SIDE * b) % size_of(level, refined) == 0
-}
-
-// The tests behind refusals 1 to 3, in their order.
-pub fn block_refusal(
-    width: usize,
-    height: usize,
-    level: usize,
-    refined: usize,
-    bx: usize,
-    by: usize,
-) -> u32
-    ensures { result ≡ block_refusal width height level refined bx by }
-{
-    if !side_ok(width) {
-        return 1;
-    }
-    if !side_ok(height) {
-        return 1;
-    }
-    if !level_ok(level, refined) {
-        return 2;
-    }
-    if !start_ok(width, level, refined, bx) {
-        return 3;
-    }
-    if !start_ok(height, level, refined, by) {
-        return 3;
-    }
-    0
+    b < side / CELL_SIDE && (CELL_SIDE * b) % size == 0
 }
 
 fn plane_ok(width: usize, height: usize, level: usize, len: usize) -> bool
@@ -93,43 +42,73 @@ fn plane_ok(width: usize, height: usize, level: usize, len: usize) -> bool
 }
 
 // The test behind refusal 4, of the lengths of a level's two planes.
-pub fn planes_refusal(
+#[tactic(auto, unfolding(crate::specs::Refusals::planes_refusal, crate::specs::Refusals::refuse))]
+pub fn planes_test(
     width: usize,
     height: usize,
     level: usize,
     cur: usize,
     reference: usize,
-) -> u32
+) -> Result<(), Refusal>
     requires { (width ≤ largest_side) × (height ≤ largest_side) }
-    ensures { result ≡ planes_refusal width height level cur reference }
+    ensures { code_of result ≡ planes_refusal width height level cur reference }
 {
-    if !plane_ok(width, height, level, cur) {
-        return 4;
+    if plane_ok(width, height, level, cur) && plane_ok(width, height, level, reference) {
+        Ok(())
+    } else {
+        Err(Refusal::Plane)
     }
-    if !plane_ok(width, height, level, reference) {
-        return 4;
-    }
-    0
 }
 
-// The tests behind refusals 1 to 4, in their order.
-pub fn call_refusal(
-    width: usize,
-    height: usize,
-    level: usize,
-    refined: usize,
-    bx: usize,
-    by: usize,
-    cur: usize,
-    reference: usize,
-) -> u32
-    ensures { result ≡ call_refusal width height level refined bx by cur reference }
-{
-    let code = block_refusal(width, height, level, refined, bx, by);
-    if code != 0 {
-        return code;
+// A block of a frame as a C call names it.
+#[derive(Clone, Copy, Debug, PartialEq, Eq)]
+pub struct BlockCall {
+    pub width: usize,
+    pub height: usize,
+    pub level: usize,
+    pub refined: usize,
+    pub bx: usize,
+    pub by: usize,
+}
+
+impl BlockCall {
+    #[tactic(auto, unfolding(crate::specs::Refusals::size_of))]
+    pub fn size(self) -> usize
+        ensures { result ≡ size_of self.level self.refined }
+    {
+        let row = level_of(self.level);
+        if self.refined == 0 {
+            row.mv_size
+        } else {
+            row.refined
+        }
     }
-    planes_refusal(width, height, level, cur, reference)
+
+    // The tests behind refusals 1 to 3, in their order.
+    #[tactic(auto, using(crate::proofs::RefusalLaws::size_bounds))]
+    pub fn test(self) -> Result<(), Refusal>
+        ensures { code_of result ≡ block_refusal self.width self.height self.level self.refined self.bx self.by }
+    {
+        if !(side_ok(self.width) && side_ok(self.height)) {
+            return Err(Refusal::Side);
+        }
+        if !level_ok(self.level, self.refined) {
+            return Err(Refusal::Level);
+        }
+        let size = self.size();
+        if !(start_ok(self.width, size, self.bx) && start_ok(self.height, size, self.by)) {
+            return Err(Refusal::Start);
+        }
+        Ok(())
+    }
+
+    // The tests behind refusals 1 to 4, in their order.
+    pub fn test_with_planes(self, cur: usize, reference: usize) -> Result<(), Refusal>
+        ensures { code_of result ≡ call_refusal self.width self.height self.level self.refined self.bx self.by cur reference }
+    {
+        self.test()?;
+        planes_test(self.width, self.height, self.level, cur, reference)
+    }
 }
 
 // The test behind refusal 5: whether a grid with room for so many cells holds a frame's.
@@ -140,22 +119,11 @@ pub fn grid_ok(width: usize, height: usize, room: usize) -> bool
     (width / CELL_SIDE) * (height / CELL_SIDE) <= room
 }
 
-// The test behind refusal 5: the room of the grid, and of a previous one that is said to be present.
-pub fn grids_hold(
-    width: usize,
-    height: usize,
-    present: usize,
-    prev_room: usize,
-    room: usize,
-) -> bool
+// The test behind refusal 5: the room of the grid, and that of a previous one.
+#[tactic(auto, unfolding(crate::specs::Refusals::grids_fit))]
+pub fn grids_hold(width: usize, height: usize, prev: Option<GridRef<'_>>, room: usize) -> bool
     requires { (width ≤ largest_side) × (height ≤ largest_side) }
-    ensures { result ≡ grids_hold width height present prev_room room }
+    ensures { result ≡ grids_fit width height (previous_lent prev.entry) room }
 {
-    if !grid_ok(width, height, room) {
-        return false;
-    }
-    if present == 0 {
-        return true;
-    }
-    grid_ok(width, height, prev_room)
+    grid_ok(width, height, room) && prev.is_none_or(|grid| grid_ok(width, height, grid.room()))
 }
