@@ -3,13 +3,16 @@
 use mathlib.Core.Path.{◌≡◌, refl, sym, ap, ap₂, ◌∙◌}
 use mathlib.Core.List.{List, [], ◌∷◌, ◌++◌}
 use Prim.Native.Nat.{ℕ, zero, suc, ◌+◌, ◌-◌, ◌*◌, ◌/◌, ◌^◌, ◌≤◌, ◌<◌}
-use native.Mathlib.Nat.{add_assoc, pow-suc}
+use native.Mathlib.Nat.{add_assoc, pow-suc, div-div-eq-div-mul}
 use native.Mathlib.Numerals.{add-one, add-two}
 use native.Mathlib.Omega.{arith}
 use lib.ListN.{length, get_or, take, drop, take-append-drop}
 use lib.Seq.{sets, slice, slice_empty, slice-cons, length-slice, get_or-drop}
-use mir.Syntax.{w8}
-use mir.Val.{Fits}
+use mir.Syntax.{w64}
+use borrow.Rule.Slice.PartMut.{put_mid}
+use Rattle.std.specs.Int.{to_le_bytes}
+use Rattle.std.proofs.Common.{append_assoc, drop-drop}
+use Rattle.std.proofs.lemmas.List.Edits.{sets-eq}
 use Rattle.ground.proofs.ListLaws.{sets_append}
 use Rattle.records.specs.Numbers.{OfBytes, bytes_of, number_of}
 
@@ -21,6 +24,17 @@ length-bytes (suc count) n = ap suc (length-bytes count _)
 -- bytes put behind others are put with them
 pub puts_on : (l : List ℕ) (i : ℕ) (xs ys : List ℕ) {m n : List ℕ} {k : ℕ} → m ≡ sets l i xs → n ≡ sets m k ys → i + length xs ≡ k → n ≡ sets l i (xs ++ ys)
 puts_on l i xs ys e f at = f ∙ ap₂ (λ (m : List ℕ) (k : ℕ). sets m k ys) e (sym at) ∙ sym (sets_append l i xs ys)
+
+-- and so are those that a part of the list is given
+pub puts_part : (l : List ℕ) (i k : ℕ) (ys : List ℕ) {xs : List ℕ} → xs ≡ ys → length ys ≡ k → i + k ≤ length l → put_mid i k l xs ≡ sets l i ys
+puts_part l i k ys same e h =
+    let inside : i + length ys ≤ length l = omega arith in
+    rw (sets-eq, append_assoc, drop-drop, e, same)
+
+-- a machine's eight bytes are these
+pub le-bytes : (n : ℕ) → to_le_bytes w64 n ≡ bytes_of 8 n
+unfolding bytes_of
+le-bytes n = simp div-div-eq-div-mul
 
 -- a 16-bit number's bytes are put in front of another's
 pub bytes-behind : (count n m : ℕ) → n < 2 ^ 16 → bytes_of (suc (suc count)) (n + 65536 * m) ≡ bytes_of 2 n ++ bytes_of count m
@@ -38,9 +52,6 @@ module _ (l : List ℕ) (at : ℕ) where
   pub two_bytes : at + 2 ≤ length l → number_of (slice at (at + 2) l) ≡ get_or l at 0 + 256 * get_or l (at + 1) 0
   unfolding number_of
   two_bytes h = omega (arith, front-two (at + 2) (omega arith) h, ap number_of (slice_empty (at + 2) l))
-
-  pub two-below : ((k : ℕ) → Fits w8 (get_or l k 0)) → at + 2 ≤ length l → number_of (slice at (at + 2) l) < 65536
-  two-below known h = omega (arith, two_bytes h, known at, known (at + 1))
 
   pub four_bytes : at + 4 ≤ length l → number_of (slice at (at + 4) l) ≡ number_of (slice at (at + 2) l) + 65536 * number_of (slice (at + 2) (at + 2 + 2) l)
   four_bytes h = rw (add_assoc at 2 2) (omega (arith, front-two (at + 4) (omega arith) h, two_bytes (omega arith)))

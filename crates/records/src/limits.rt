@@ -1,12 +1,7 @@
 // The numbers of a grid file, each once.
 
 // Every record starts with these two bytes.
-pub const MARK_FIRST: u8 = 0x4C;
-
-pub const MARK_SECOND: u8 = 0x47;
-
-// The two as one number, little-endian.
-pub const MARK: u32 = 0x474C;
+pub const MARK: [u8; 2] = [0x4C, 0x47];
 
 pub const HEADER_BYTES: usize = 4;
 
