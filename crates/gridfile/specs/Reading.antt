@@ -1,10 +1,13 @@
 -- Reading: a fold over the bytes, one a turn, from the front; what is refused, and the grid that it leaves.
-use Rattle.std.specs.Prelude.{ℕ, suc, ◌+◌, ◌*◌, ◌%◌, Bool, ◌&&◌, ◌||◌, cond, List, [], ◌∷◌, ◌++◌, leb, ltb, eqb, length, get_or}
+use Rattle.std.specs.Prelude.{ℕ, suc, ◌+◌, ◌*◌, ◌%◌, Bool, ◌&&◌, ◌||◌, cond, List, [], ◌∷◌, ◌++◌, leb, ltb, eqb, length, get_or, Result, Ok, Err}
 use Rattle.grid.specs.declared.cells.MEStats.{MEStats}
 use Rattle.grid.specs.Grid.{Grid, with_cell, room}
 use Rattle.refusal.specs.Refusals.{refuse, ◌then◌}
+use Rattle.refusal.specs.declared.kinds.Refusal.{Refusal}
+use Rattle.refusal.specs.Kinds.{number_of}
 use Rattle.records.specs.Forms.{HeaderForm, byte_sides, CellForm, Forms, plain_forms, header_mark, cell_mark, header_size, cell_size}
 use Rattle.records.specs.Records.{cell_of}
+use Rattle.gridfile.specs.declared.extent.Extent.{Extent}
 use Rattle.gridfile.specs.declared.read.Shape.{Shape}
 
 -- what the header said, 0 before it ended, and the forms of the file's records
@@ -152,6 +155,11 @@ read_refusal file g = ended (taken (room g) start file)
 unfoldable pub shape_of : (number columns rows : ℕ) → Shape
 shape_of number columns rows =
     record { code = number; columns = cond (eqb number 0) columns 0; rows = cond (eqb number 0) rows 0 }
+
+-- as a typed call answers it
+abbrev pub shape_for : Result Extent Refusal → Shape
+shape_for (Ok extent) = record { code = 0; columns = extent.columns; rows = extent.rows }
+shape_for (Err refusal) = record { code = number_of refusal; columns = 0; rows = 0 }
 
 unfoldable pub read_answer : List ℕ → Grid → Shape
 read_answer file g =

@@ -1,8 +1,10 @@
 -- Writing: the list of bytes that a grid's file is, and what is refused.
-use Rattle.std.specs.Prelude.{ℕ, zero, suc, ◌*◌, ◌/◌, ◌&&◌, cond, List, [], ◌++◌, leb, eqb, length, drop}
+use Rattle.std.specs.Prelude.{ℕ, zero, suc, ◌*◌, ◌/◌, ◌&&◌, cond, List, [], ◌++◌, leb, eqb, length, drop, Result, Ok, Err}
 use Rattle.motion.specs.Limits.{cell_side}
 use Rattle.grid.specs.Grid.{Grid, cells, stats_at, room}
 use Rattle.refusal.specs.Refusals.{refuse, ◌then◌, side_ok, grid_ok}
+use Rattle.refusal.specs.declared.kinds.Refusal.{Refusal}
+use Rattle.refusal.specs.Kinds.{number_of}
 use Rattle.records.specs.Forms.{CellForm, Forms, plain_forms}
 use Rattle.records.specs.Records.{header_record, cell_record, file_bytes}
 use Rattle.gridfile.specs.declared.write.Written.{Written}
@@ -36,6 +38,11 @@ write_refusal width height n bytes =
 -- the refusal, and how many bytes the file has: 0 in a refusal
 unfoldable pub written_of : ℕ → ℕ → Written
 written_of number bytes = record { code = number; bytes = cond (eqb number 0) bytes 0 }
+
+-- as a typed call answers it
+abbrev pub written_for : Result ℕ Refusal → Written
+written_for (Ok bytes) = record { code = 0; bytes = bytes }
+written_for (Err refusal) = record { code = number_of refusal; bytes = 0 }
 
 unfoldable pub write_answer : (width height : ℕ) (g : Grid) (file : List ℕ) → Written
 write_answer width height g file = written_of (write_refusal width height (room g) (length file)) (bytes_for width height)

@@ -2,5 +2,6 @@
 #![tactic(auto)]
 
 pub mod calls;
+pub mod extent;
 pub mod read;
 pub mod write;

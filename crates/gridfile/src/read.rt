@@ -1,28 +1,31 @@
-ghost use Rattle.std.specs.Prelude.{◌≡◌, ◌&&◌, ◌+◌, ◌*◌, ◌≤◌, ◌<◌, length, get_or, take, drop, ltb};
-ghost use Rattle.grid.specs.Grid.{grid_of};
+ghost use Rattle.std.specs.Prelude.{◌≡◌, ◌&&◌, ◌+◌, ◌*◌, ◌≤◌, IfOk, length, get_or, take, drop, ltb};
 ghost use Rattle.ground.specs.Every.{all_below};
+ghost use Rattle.grid.specs.Grid.{room};
+ghost use Rattle.grid.specs.Lent.{lent_mut, SameBuffers};
 ghost use Rattle.refusal.specs.Refusals.{refuse, ◌then◌};
-ghost use Rattle.records.specs.Forms.{plain_forms, mark, header_bytes, most_cells};
-ghost use Rattle.records.specs.Records.{file_bytes};
-ghost use Rattle.gridfile.specs.Reading.{head_of, marked, header_end, between, start, taken, kept, ended};
+ghost use Rattle.refusal.specs.Kinds.{code_of};
+ghost use Rattle.records.specs.Forms.{mark, header_bytes, cell_bytes, most_cells};
+ghost use Rattle.gridfile.specs.Peek.{peek_for, peek_answer};
+ghost use Rattle.gridfile.specs.Reading.{head_of, marked, header_end, between, start, taken, kept, ended, shape_for, read_answer, read_grid};
 
-use grid::cells::save_cell;
-use records::limits::{CELL_BYTES, HEADER_BYTES, MARK, MARK_FIRST, MARK_SECOND};
-use records::numbers::get_16;
-use records::parts::get_cell;
+use crate::extent::Extent;
+use grid::lent::GridMut;
+use records::limits::{CELL_BYTES, HEADER_BYTES, MARK, MOST_FILE_CELLS};
+use records::parts::{get_cell, is_marked};
+use refusal::kinds::Refusal;
 
-// 0 or a refusal, and columns and rows of cells.
+// 0 or a refusal, and columns and rows of cells: the C interface, so the number is a field.
 #[repr(C)]
-#[derive(Clone, Copy)]
+#[derive(Clone, Copy, Debug, PartialEq, Eq)]
 pub struct Shape {
     pub code: u32,
     pub columns: u32,
     pub rows: u32,
 }
 
-// 0 or a refusal, columns and rows of cells, and how many bytes the whole file has.
+// The same, and how many bytes the whole file has.
 #[repr(C)]
-#[derive(Clone, Copy)]
+#[derive(Clone, Copy, Debug, PartialEq, Eq)]
 pub struct Peek {
     pub code: u32,
     pub columns: u32,
@@ -30,115 +33,151 @@ pub struct Peek {
     pub bytes: u64,
 }
 
+impl From<Result<Extent, Refusal>> for Shape {
+    ghost from_gives = { λ answer shape. shape ≡ shape_for answer };
+
+    fn from(answer: Result<Extent, Refusal>) -> Shape {
+        match answer {
+            Ok(extent) => Shape {
+                code: 0,
+                columns: extent.columns as u32,
+                rows: extent.rows as u32,
+            },
+            Err(refusal) => Shape {
+                code: refusal.number(),
+                columns: 0,
+                rows: 0,
+            },
+        }
+    }
+}
+
+impl From<Result<Extent, Refusal>> for Peek {
+    ghost from_gives = { λ answer peek. peek ≡ peek_for answer };
+
+    fn from(answer: Result<Extent, Refusal>) -> Peek {
+        match answer {
+            Ok(extent) => Peek {
+                code: 0,
+                columns: extent.columns as u32,
+                rows: extent.rows as u32,
+                bytes: extent.file_bytes() as u64,
+            },
+            Err(refusal) => Peek {
+                code: refusal.number(),
+                columns: 0,
+                rows: 0,
+                bytes: 0,
+            },
+        }
+    }
+}
+
 // A mark of which bytes may be missing.
-fn mark_refusal(file: &[u8], at: usize) -> u32
-    requires { at ≤ length file.now }
-    ensures { result ≡ (refuse 11 (ltb at (length file.now)) then refuse 10 (marked mark 0 (get_or file.now at 0)) then refuse 11 (ltb (at + 1) (length file.now)) then refuse 10 (marked mark 1 (get_or file.now (at + 1) 0))) }
+fn mark_refusal(bytes: &[u8]) -> Result<(), Refusal>
+    ensures { code_of result ≡ (refuse 11 (ltb 0 (length bytes.now)) then refuse 10 (marked mark 0 (get_or bytes.now 0 0)) then refuse 11 (ltb 1 (length bytes.now)) then refuse 10 (marked mark 1 (get_or bytes.now 1 0))) }
 {
-    if file.len() <= at {
-        return 11;
+    match bytes {
+        [] => Err(Refusal::Length),
+        [first, ..] if *first != MARK[0] => Err(Refusal::Mark),
+        [_] => Err(Refusal::Length),
+        [_, second, ..] if *second != MARK[1] => Err(Refusal::Mark),
+        _ => Ok(()),
     }
-    if file[at] != MARK_FIRST {
-        return 10;
-    }
-    if file.len() <= at + 1 {
-        return 11;
-    }
-    if file[at + 1] != MARK_SECOND {
-        return 10;
-    }
-    0
 }
 
 // The tests at a header's end: 12, then 13.
-pub fn end_refusal(room: usize, columns: usize, rows: usize) -> u32
+pub fn end_refusal(room: usize, columns: usize, rows: usize) -> Result<(), Refusal>
     requires { (columns ≤ most_cells) × (rows ≤ most_cells) }
-    ensures { result ≡ (header_end room (head_of columns rows)).code }
+    ensures { code_of result ≡ (header_end room (head_of columns rows)).code }
 {
-    if columns % 2 != 0 {
-        return 12;
-    }
-    if rows % 2 != 0 {
-        return 12;
+    if columns % 2 != 0 || rows % 2 != 0 {
+        return Err(Refusal::Odd);
     }
     if room < columns * rows {
-        return 13;
+        return Err(Refusal::Room);
     }
-    0
+    Ok(())
 }
 
-// The header: refusals 10, 11, 12 and 13, from the front.
-pub(crate) fn header_refusal(file: &[u8], room: usize) -> u32
-    ensures { result ≡ ((taken room start (take header_bytes file.now)).code then refuse 11 (ltb 0 (taken room start (take header_bytes file.now)).head.columns)) }
+// The header, or refusals 10, 11, 12 and 13, from the front.
+fn header(file: &[u8], room: usize) -> Result<Extent, Refusal>
+    ensures number { code_of result ≡ ((taken room start (take header_bytes file.now)).code then refuse 11 (ltb 0 (taken room start (take header_bytes file.now)).head.columns)) }
+    ensures said { IfOk result (λ said. (header_bytes ≤ length file.now) × (said.columns ≡ get_or file.now 2 0 + 1) × (said.rows ≡ get_or file.now 3 0 + 1)) }
 {
-    let code = mark_refusal(file, 0);
-    if code != 0 {
-        return code;
-    }
-    if file.len() < HEADER_BYTES {
-        return 11;
-    }
-    end_refusal(room, file[2] as usize + 1, file[3] as usize + 1)
+    mark_refusal(file)?;
+    let [_, _, columns, rows, ..] = file else {
+        return Err(Refusal::Length);
+    };
+    let said = Extent {
+        columns: *columns as usize + 1,
+        rows: *rows as usize + 1,
+    };
+    end_refusal(room, said.columns, said.rows)?;
+    Ok(said)
 }
 
 // Whether the first `count` cell records, all of whose bytes are there, start with the mark.
-fn marks_hold(file: &[u8], count: usize) -> bool
-    requires { file_bytes plain_forms count ≤ length file.now }
-    ensures { result ≡ all_below count (λ i. marked mark 0 (get_or file.now (file_bytes plain_forms i) 0) && marked mark 1 (get_or file.now (file_bytes plain_forms i + 1) 0)) }
+pub fn marks_hold(records: &[u8], count: usize) -> bool
+    requires { cell_bytes * count ≤ length records.now }
+    ensures { result ≡ all_below count (λ i. marked mark 0 (get_or records.now (cell_bytes * i) 0) && marked mark 1 (get_or records.now (cell_bytes * i + 1) 0)) }
 {
-    let mut i = 0;
-    while i < count {
-        if get_16(file, HEADER_BYTES + CELL_BYTES * i) != MARK {
+    // As `(0..count).all(..)` it was tried, and the proof didn't close.
+    for i in 0..count {
+        if !is_marked(records, CELL_BYTES * i) {
             return false;
         }
-        i += 1;
     }
     true
 }
 
 // The cells, and bytes left over: refusals 10 and 11, from the front.
-pub(crate) fn cells_refusal(file: &[u8], columns: usize, rows: usize) -> u32
-    requires { (header_bytes ≤ length file.now) × (0 < columns) × (columns ≤ most_cells) × (rows ≤ most_cells) }
-    ensures { result ≡ ended (taken 0 (between (head_of columns rows) 0) (drop header_bytes file.now)) }
+fn cells_refusal(file: &[u8], said: Extent) -> Result<(), Refusal>
+    requires { header_bytes ≤ length file.now }
+    ensures { code_of result ≡ ended (taken 0 (between (head_of said.columns said.rows) 0) (drop header_bytes file.now)) }
 {
-    let count = columns * rows;
+    let count = said.cells();
     let there = (file.len() - HEADER_BYTES) / CELL_BYTES;
+    if !marks_hold(&file[HEADER_BYTES..], there.min(count)) {
+        return Err(Refusal::Mark);
+    }
     if there < count {
-        if !marks_hold(file, there) {
-            return 10;
-        }
-        if mark_refusal(file, HEADER_BYTES + CELL_BYTES * there) == 10 {
-            return 10;
-        }
-        return 11;
+        mark_refusal(&file[HEADER_BYTES + CELL_BYTES * there..])?;
+        return Err(Refusal::Length);
     }
-    if !marks_hold(file, count) {
-        return 10;
+    if file.len() != said.file_bytes() {
+        return Err(Refusal::Length);
     }
-    if file.len() != HEADER_BYTES + CELL_BYTES * count {
-        return 11;
-    }
-    0
+    Ok(())
 }
 
 // The cells of a file that nothing is wrong with.
-pub(crate) fn get_cells(
-    file: &[u8],
-    columns: usize,
-    down: usize,
-    rows: &mut [i16],
-    cols: &mut [i16],
-    sads: &mut [u32],
-)
-    requires header_bytes_in_bounds { (header_bytes ≤ length file.now) × (0 < columns) × (columns ≤ most_cells) × (down ≤ most_cells) × (ended (taken 0 (between (head_of columns down) 0) (drop header_bytes file.now)) ≡ 0) }
-    requires down_in_bounds { (columns * down ≤ length rows.old) × (columns * down ≤ length cols.old) × (columns * down ≤ length sads.old) }
-    ensures { grid_of rows.new cols.new sads.new ≡ kept 0 (between (head_of columns down) 0) (drop header_bytes file.now) (grid_of rows.old cols.old sads.old) }
+fn get_cells(file: &[u8], said: Extent, grid: &mut GridMut<'_>)
+    requires sound { (header_bytes ≤ length file.now) × (ended (taken 0 (between (head_of said.columns said.rows) 0) (drop header_bytes file.now)) ≡ 0) }
+    requires room { said.columns * said.rows ≤ room (lent_mut grid.old) }
+    ensures kept { lent_mut grid.new ≡ kept 0 (between (head_of said.columns said.rows) 0) (drop header_bytes file.now) (lent_mut grid.old) }
+    ensures same { SameBuffers grid.old grid.new }
 {
-    let count = columns * down;
-    let mut i = 0;
-    while i < count {
-        let cell = get_cell(file, HEADER_BYTES + CELL_BYTES * i);
-        save_cell(i, cell, rows, cols, sads);
-        i += 1;
+    for i in 0..said.cells() {
+        grid.save_cell(i, get_cell(file, HEADER_BYTES + CELL_BYTES * i));
     }
+}
+
+// The grid of a file, whose cells are written where nothing is wrong with it.
+pub fn read_grid(file: &[u8], grid: &mut GridMut<'_>) -> Result<Extent, Refusal>
+    ensures answer { shape_for result ≡ read_answer file.now (lent_mut grid.old) }
+    ensures kept { lent_mut grid.new ≡ read_grid file.now (lent_mut grid.old) }
+    ensures same { SameBuffers grid.old grid.new }
+{
+    let said = header(file, grid.room())?;
+    cells_refusal(file, said)?;
+    get_cells(file, said, grid);
+    Ok(said)
+}
+
+// What a header says, with room for any grid: the first four bytes of a file are enough.
+pub fn peek_header(file: &[u8]) -> Result<Extent, Refusal>
+    ensures { peek_for result ≡ peek_answer file.now }
+{
+    header(file, MOST_FILE_CELLS)
 }

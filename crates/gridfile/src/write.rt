@@ -1,60 +1,88 @@
 ghost use Rattle.std.specs.Prelude.{◌≡◌, ◌%◌, ◌≤◌, length};
-ghost use Rattle.grid.specs.Grid.{grid_of};
 ghost use Rattle.std.proofs.lemmas.List.Edits.{sets};
+ghost use Rattle.grid.specs.Grid.{room};
+ghost use Rattle.grid.specs.Lent.{lent};
+ghost use Rattle.refusal.specs.Kinds.{code_of};
 ghost use Rattle.records.specs.Forms.{one_sad, plain_forms, header_bytes};
 ghost use Rattle.records.specs.Records.{file_bytes};
-ghost use Rattle.gridfile.specs.Writing.{cell_records, write_refusal};
+ghost use Rattle.gridfile.specs.Writing.{cell_records, write_refusal, written_for, write_answer, written_file};
 
-use grid::cells::stats_at;
+use grid::lent::GridRef;
 use motion::limits::CELL_SIDE;
 use records::limits::{CELL_BYTES, HEADER_BYTES};
-use records::parts::put_cell;
+use records::parts::{put_cell, put_header};
+use refusal::kinds::Refusal;
 use refusal::refusals::{grid_ok, side_ok};
 
-// 0 or a refusal, and how many bytes the file has.
+// 0 or a refusal, and how many bytes the file has: the C interface, so the number is a field.
 #[repr(C)]
-#[derive(Clone, Copy)]
+#[derive(Clone, Copy, Debug, PartialEq, Eq)]
 pub struct Written {
     pub code: u32,
     pub bytes: u64,
 }
 
-// The tests behind refusals 1, 5 and 13, in this order.
-pub(crate) fn write_refusal(width: usize, height: usize, room: usize, bytes: usize) -> u32
-    ensures { result ≡ write_refusal width height room bytes }
-{
-    if !side_ok(width) {
-        return 1;
+impl From<Result<usize, Refusal>> for Written {
+    ghost from_gives = { λ answer written. written ≡ written_for answer };
+
+    fn from(answer: Result<usize, Refusal>) -> Written {
+        match answer {
+            Ok(bytes) => Written {
+                code: 0,
+                bytes: bytes as u64,
+            },
+            Err(refusal) => Written {
+                code: refusal.number(),
+                bytes: 0,
+            },
+        }
     }
-    if !side_ok(height) {
-        return 1;
-    }
-    if !grid_ok(width, height, room) {
-        return 5;
-    }
-    if bytes < HEADER_BYTES + CELL_BYTES * ((width / CELL_SIDE) * (height / CELL_SIDE)) {
-        return 13;
-    }
-    0
 }
 
-// The records of the first `count` cells, behind the header, two a turn.
-pub(crate) fn put_cells(count: usize, rows: &[i16], cols: &[i16], sads: &[u32], file: &mut [u8])
-    requires { (count ≤ length rows.now) × (count ≤ length cols.now) × (count ≤ length sads.now) × (file_bytes plain_forms count ≤ length file.old) × (count % 2 ≡ 0) }
-    ensures { file.new ≡ sets file.old header_bytes (cell_records one_sad (grid_of rows.now cols.now sads.now) 0 count) }
+// The tests behind refusals 1, 5 and 13, in this order.
+fn write_refusal(width: usize, height: usize, room: usize, bytes: usize) -> Result<(), Refusal>
+    ensures { code_of result ≡ write_refusal width height room bytes }
 {
-    let mut i = 0;
-    while i < count {
-        put_cell(
-            HEADER_BYTES + CELL_BYTES * i,
-            stats_at(rows, cols, sads, i),
-            file,
-        );
-        put_cell(
-            HEADER_BYTES + CELL_BYTES * (i + 1),
-            stats_at(rows, cols, sads, i + 1),
-            file,
-        );
-        i += 2;
+    if !side_ok(width) || !side_ok(height) {
+        return Err(Refusal::Side);
     }
+    if !grid_ok(width, height, room) {
+        return Err(Refusal::Grid);
+    }
+    if bytes < HEADER_BYTES + CELL_BYTES * ((width / CELL_SIDE) * (height / CELL_SIDE)) {
+        return Err(Refusal::Room);
+    }
+    Ok(())
+}
+
+// The records of the first `count` cells, behind the header, two a turn: one a turn took up to 1.4 of the time.
+fn put_cells(count: usize, grid: &GridRef<'_>, file: &mut [u8])
+    requires { (count ≤ room (lent grid.now)) × (file_bytes plain_forms count ≤ length file.old) × (count % 2 ≡ 0) }
+    ensures { file.new ≡ sets file.old header_bytes (cell_records one_sad (lent grid.now) 0 count) }
+{
+    for pair in 0..count / 2 {
+        let i = 2 * pair;
+        let at = HEADER_BYTES + CELL_BYTES * i;
+        put_cell(at, grid.stats_at(i), file);
+        put_cell(at + CELL_BYTES, grid.stats_at(i + 1), file);
+    }
+}
+
+// The file of a frame's grid, and how many bytes it has.
+pub fn write_grid(
+    width: usize,
+    height: usize,
+    grid: &GridRef<'_>,
+    file: &mut [u8],
+) -> Result<usize, Refusal>
+    ensures answer { written_for result ≡ write_answer width height (lent grid.now) file.old }
+    ensures file_after { file.new ≡ written_file width height (lent grid.now) file.old }
+{
+    write_refusal(width, height, grid.room(), file.len())?;
+    let columns = width / CELL_SIDE;
+    let rows = height / CELL_SIDE;
+    let count = columns * rows;
+    put_header(columns, rows, file);
+    put_cells(count, grid, file);
+    Ok(HEADER_BYTES + CELL_BYTES * count)
 }

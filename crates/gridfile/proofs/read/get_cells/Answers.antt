@@ -1,44 +1,45 @@
 -- `gridfile::read::get_cells` meets its contract: after i turns the cells from i on are left. Assumes nothing.
-use mathlib.Core.Path.{◌≡◌, sym, ap, subst, subst₂, ◌∙◌}
-use Prim.Native.Nat.{ℕ, ◌+◌, ◌*◌, ◌≤◌}
-use native.Mathlib.Numerals.{add-one}
-use native.Mathlib.Omega.{arith}
-use lib.ListN.{length}
+use Rattle.std.proofs.Common.{◌≡◌, ℕ, ◌*◌, sym, ap, subst, subst₂, ◌∙◌, arith, add-one}
 use Rattle.grid.specs.declared.cells.MEStats.{MEStats}
-use Rattle.grid.specs.Grid.{Grid, grid_of, with_cell}
-use Rattle.records.specs.Forms.{plain_forms}
+use Rattle.grid.specs.Grid.{Grid, room, with_cell}
+use Rattle.grid.specs.Lent.{lent_mut}
 use Rattle.records.specs.Records.{file_bytes}
 use Rattle.gridfile.proofs.LeftLaws.{Left, left-all, left_there, left-next, left-none}
-use Rattle.gridfile.proofs.read.get_cells.Goals.{In-loop-i}
+use Rattle.gridfile.proofs.LentLaws.{same_here, same_on}
 use Rattle.gridfile.proofs.read.get_cells.Goals as goal
 
-there : (c : In-loop-i) → file_bytes plain_forms c.loop-i.i + 10 ≤ length c.args.file.now
-there c = left_there _ _ _ c.requires.header_bytes_in_bounds.1 _ _ _ c.loop-i-test.true c.loop-i.invariant
-
 pub loop-i-init : goal.loop-i-init
-loop-i-init c =
-    left-all _ _ _ c.requires.header_bytes_in_bounds.1 _ c.requires.header_bytes_in_bounds.4
+loop-i-init c = record { left = left-all _ _ _ c.args.said.wide.0 _ c.requires.sound.1; same = same_here c.args.grid.now }
 
-pub get_cell-cell-requires : goal.get_cell-cell-requires
+pub get_cell-requires : goal.get_cell-requires
 unfolding file_bytes
-get_cell-cell-requires c = there c
+get_cell-requires c =
+    left_there _ _ _ c.args.said.wide.0 _ _ _ (omega (arith, c.loop-i-test.true, c.cells-i-end.ensures)) c.loop-i.invariant.left
+
+pub save_cell-requires : goal.save_cell-requires
+unfolding room
+save_cell-requires c = (omega arith, omega arith, omega arith)
 
 pub loop-i-preserved : goal.loop-i-preserved
 unfolding file_bytes
 loop-i-preserved c =
     let at = c.loop-i in
-    let a = c.args in
-    let g = grid_of at.rows at.cols at.sads in
-    let lent = grid_of a.rows.now a.cols.now a.sads.now in
-    let step = c.save_cell.ensures ∙ ap (λ (m : MEStats). with_cell at.i m g) c.get_cell-cell.ensures in
-    let next = left-next a.file.now a.columns a.down c.requires.header_bytes_in_bounds.1 lent at.i g c.loop-i-test.true at.invariant in
-    subst₂ (λ (n : ℕ) (h : Grid). Left a.file.now a.columns a.down lent n h) (sym (add-one at.i)) (sym step) next
+    let file = c.args.file.now in
+    let said = c.args.said in
+    let g = lent_mut at.grid in
+    let lent = lent_mut c.args.grid.now in
+    let step = c.save_cell.ensures.saved ∙ ap (λ (m : MEStats). with_cell at.i m g) c.get_cell.ensures in
+    let next = left-next file said.columns said.rows said.wide.0 lent at.i g (omega (arith, c.loop-i-test.true, c.cells-i-end.ensures)) at.invariant.left in
+    record {
+      left = subst₂ (λ (n : ℕ) (h : Grid). Left file said.columns said.rows lent n h) (sym (add-one at.i)) (sym step) next;
+      same = same_on at.invariant.same c.save_cell.ensures.same;
+    }
 
-pub returns : goal.returns
-returns c =
+pub returns-clause-kept : goal.returns-clause-kept
+returns-clause-kept c =
     let at = c.loop-i in
-    let done : at.i ≡ c.args.columns * c.args.down = omega (arith, at.invariant.few) in
-    let a = c.args in
-    let lent = grid_of a.rows.now a.cols.now a.sads.now in
-    let now-held = grid_of at.rows at.cols at.sads in
-    left-none a.file.now a.columns a.down c.requires.header_bytes_in_bounds.1 lent now-held (subst (λ (n : ℕ). Left a.file.now a.columns a.down lent n now-held) done at.invariant)
+    let file = c.args.file.now in
+    let said = c.args.said in
+    let lent = lent_mut c.args.grid.now in
+    let done : at.i ≡ said.columns * said.rows = omega (arith, at.invariant.left.few, c.loop-i-test.false, c.cells-i-end.ensures) in
+    left-none file said.columns said.rows said.wide.0 lent (lent_mut at.grid) (subst (λ (n : ℕ). Left file said.columns said.rows lent n (lent_mut at.grid)) done at.invariant.left)

@@ -1,12 +1,9 @@
-use mathlib.Core.Path.{◌≡◌}
-use mathlib.Core.Bool.{true}
-use Prim.Native.Nat.{◌-◌, ◌≤◌}
+use Rattle.std.proofs.Common.{◌≡◌, ◌*◌, true}
 use Rattle.ground.specs.Every.{all_below}
-use Rattle.gridfile.proofs.PlaceLaws.{cell_marked}
+use Rattle.records.specs.Forms.{cell_bytes}
+use Rattle.gridfile.proofs.MarkLaws.{marked_at}
 use Rattle.gridfile.proofs.read.marks_hold.Given as goal
 
+-- the first i marks hold
 abbrev pub invariant-loop-i : goal.invariant-loop-i
-invariant-loop-i l = (l.i ≤ l.count) × (all_below l.i (cell_marked l.file) ≡ true)
-
-abbrev pub decreases-loop-i : goal.decreases-loop-i
-decreases-loop-i l = l.count - l.i
+invariant-loop-i l = all_below l.i (λ i. marked_at l.records (cell_bytes * i)) ≡ true
