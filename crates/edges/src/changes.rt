@@ -1,6 +1,7 @@
 ghost use Rattle.std.specs.Prelude.{◌≤◌, ◌<◌};
 
 use crate::cases::{Call, Case, Lent};
+use grid::lent::GridRef;
 use print::{grid, labelled, text};
 
 // One cell more than the largest frame that is tried has, 1032 by 8.
@@ -74,6 +75,11 @@ pub(crate) fn report(rt: &impl Print, code: u32, case: Case, cells: &Cells) {
     labelled(rt, b" written, ", changes.past);
     text(rt, b" past\n");
     if case.call == Call::Run && case.lent == Lent::NoPrevious {
-        grid(rt, 2, 4, &cells.rows, &cells.cols, &cells.sads);
+        let lent = GridRef {
+            rows: &cells.rows,
+            cols: &cells.cols,
+            sads: &cells.sads,
+        };
+        grid(rt, 2, 4, &lent);
     }
 }

@@ -6,6 +6,7 @@
 // or `refused NUMBER` where the run is refused.
 #![tactic(auto)]
 
+use grid::lent::GridRef;
 use inter::calls::lockdapple_frame_run;
 use print::{grid, labelled, text};
 
@@ -17,31 +18,47 @@ const ACROSS: usize = WIDTH / 4;
 
 const CELLS: usize = ACROSS * (HEIGHT / 4);
 
-// The sides of this frame's planes at full, half and quarter size, with the pads of 48, 40 and 20 on both ends.
-const FULL: usize = 8 + 2 * 48;
+// The sides of its planes at full, half and quarter size, with the pads of 48, 40 and 20 on both ends.
+const FULL: usize = WIDTH + 2 * 48;
 
-const HALF: usize = 4 + 2 * 40;
+const HALF: usize = WIDTH / 2 + 2 * 40;
 
-const QUARTER: usize = 2 + 2 * 20;
+const QUARTER: usize = WIDTH / 4 + 2 * 20;
 
 fn main(rt: HostRuntime) {
     let full = [90u8; FULL * FULL];
     let half = [90u8; HALF * HALF];
     let quarter = [90u8; QUARTER * QUARTER];
-    let none = [0i16; 1];
-    let none_sads = [0u32; 1];
-    let list = [0u16; 1];
     let mut rows = [0i16; CELLS];
     let mut cols = [0i16; CELLS];
     let mut sads = [0u32; CELLS];
     let code = lockdapple_frame_run(
-        WIDTH, HEIGHT, &full, &half, &quarter, &full, &half, &quarter, 0, &none, &none, &none_sads,
-        &list, &mut rows, &mut cols, &mut sads,
+        WIDTH,
+        HEIGHT,
+        &full,
+        &half,
+        &quarter,
+        &full,
+        &half,
+        &quarter,
+        0,
+        &[],
+        &[],
+        &[],
+        &[0],
+        &mut rows,
+        &mut cols,
+        &mut sads,
     );
     if code != 0 {
         labelled(&rt, b"refused ", code as u64);
         text(&rt, b"\n");
         return;
     }
-    grid(&rt, ACROSS, CELLS, &rows, &cols, &sads);
+    let lent = GridRef {
+        rows: &rows,
+        cols: &cols,
+        sads: &sads,
+    };
+    grid(&rt, ACROSS, CELLS, &lent);
 }
