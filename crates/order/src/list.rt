@@ -1,44 +1,42 @@
-ghost use Rattle.std.specs.Prelude.{◌≡◌, ◌*◌, ◌≤◌, ◌<◌, ltb, get_or};
+ghost use Rattle.std.specs.Prelude.{◌≡◌, ◌*◌, ◌≤◌, ◌<◌, false, slice_index_or};
+ghost use Rattle.refusal.specs.Kinds.{code_of};
 ghost use Rattle.order.specs.List.{most_superblocks, all_earlier, list_refusal};
+
+use refusal::kinds::Refusal;
 
 // What a frame of 1,024 by 1,024 has.
 const MOST_SUPERBLOCKS: usize = 256;
 
 // Whether the left and the upper neighbour of superblock n, where it has them, were seen.
-fn neighbours_seen(across: usize, n: usize, seen: &[u8; MOST_SUPERBLOCKS]) -> bool
+fn neighbours_seen(across: usize, n: usize, seen: &[bool; MOST_SUPERBLOCKS]) -> bool
     requires { (0 < across) × (n < most_superblocks) }
-    ensures { result ≡ all_earlier across n (λ a. ltb 0 (get_or seen.now a 0)) }
+    ensures { result ≡ all_earlier across n (λ a. slice_index_or seen.now a false) }
 {
-    let left = n % across == 0 || 0 < seen[n - 1];
-    let above = n < across || 0 < seen[n - across];
+    let left = n % across == 0 || seen[n - 1];
+    let above = n < across || seen[n - across];
     left && above
 }
 
-// 0, or the refusal that a frame run gives to a list of superblocks.
-pub fn list_refusal(across: usize, down: usize, list: &[u16]) -> u32
+// The tests that a frame run makes of a list of superblocks.
+pub fn list_test(across: usize, down: usize, list: &[u16]) -> Result<(), Refusal>
     requires { (0 < across) × (across * down ≤ most_superblocks) }
-    ensures { result ≡ list_refusal across down list.now }
+    ensures { code_of result ≡ list_refusal across down list.now }
 {
     let count = across * down;
     if list.len() != count {
-        return 6;
+        return Err(Refusal::List);
     }
-    let mut seen = [0u8; MOST_SUPERBLOCKS];
-    let mut answer: u32 = 0;
-    let mut i = 0;
-    while i < list.len() {
-        let n = list[i] as usize;
-        if count <= n {
-            return 6;
-        }
-        if seen[n] != 0 {
-            return 6;
+    let mut seen = [false; MOST_SUPERBLOCKS];
+    let mut answer = Ok(());
+    for &n in list {
+        let n = usize::from(n);
+        if count <= n || seen[n] {
+            return Err(Refusal::List);
         }
         if !neighbours_seen(across, n, &seen) {
-            answer = 7;
+            answer = Err(Refusal::Order);
         }
-        seen[n] = 1;
-        i += 1;
+        seen[n] = true;
     }
     answer
 }
