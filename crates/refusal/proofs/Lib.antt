@@ -2,3 +2,4 @@
 pub mod RefusalLaws
 pub mod KindsLaws
 pub mod GridsLaws
+pub mod PresentLaws
