@@ -1,5 +1,8 @@
 -- Laws of the places that differ, as a loop comes to them: none is left, this one differs, or the next is looked at.
 -- Assumes nothing.
+use Rattle.std.specs.Prelude.{Some, count_by, filter, unwrap_or}
+use Rattle.std.specs.List.{range_with_len, find}
+use Rattle.std.proofs.lemmas.List.Sums.{length-filter}
 use mathlib.Core.Path.{◌≡◌, refl, sym, ap, ◌∙◌}
 use mathlib.Core.Logic.{◌⊎◌, inl, inr, ⊎_elim}
 use mathlib.Core.Bool.{Bool, true, false, cond}
@@ -12,8 +15,31 @@ use Rattle.ground.proofs.TestLaws.{tested}
 use Rattle.grid.specs.Grid.{Grid}
 use Rattle.compare.specs.Differ.{differs_at, places_from, differing}
 
+-- they are the places of the range that pass the test, as its chains count and find them
+filtered : (test : ℕ → Bool) (i n : ℕ) → places_from test i n ≡ filter test (range_with_len i n)
+unfolding places_from
+filtered test i zero = refl
+filtered test i (suc n) = rw (filtered test (suc i) n, add-one)
+
+found_first : (test : ℕ → Bool) (xs : List ℕ) (d : ℕ) → unwrap_or (find test xs) d ≡ get_or (filter test xs) 0 d
+found_first test [] d = refl
+found_first test (x ∷ xs) d =
+    elim (test x) as (λ t. unwrap_or (cond t (Some x) (find test xs)) d ≡ get_or (cond t (x ∷ filter test xs) (filter test xs)) 0 d) [
+      | true ↦ refl
+      | false ↦ found_first test xs d
+    ]
+
+module _ (f g : Grid) (from to : ℕ) where
+  pub count_differs : count_by (differs_at f g) (range_with_len from (to - from)) ≡ length (differing f g from to)
+  unfolding differing
+  count_differs = rw (filtered (differs_at f g) from (to - from), length-filter)
+
+  pub find_differs : unwrap_or (find (differs_at f g) (range_with_len from (to - from))) to ≡ get_or (differing f g from to) 0 to
+  unfolding differing
+  find_differs = rw (filtered (differs_at f g) from (to - from)) (found_first (differs_at f g) (range_with_len from (to - from)) to)
+
 module _ (f g : Grid) (i to : ℕ) where
-  pub none_left : to ≤ i → differing f g i to ≡ []
+  none_left : to ≤ i → differing f g i to ≡ []
   unfolding differing places_from
   none_left h =
       let no-places : to - i ≡ 0 = omega arith in
@@ -25,15 +51,11 @@ module _ (f g : Grid) (i to : ℕ) where
       let places : to - i ≡ suc (to - (i + 1)) = omega arith in
       rw (places, add-one)
 
-  pub differs_here : i < to → differs_at f g i ≡ true → differing f g i to ≡ i ∷ differing f g (i + 1) to
+  differs_here : i < to → differs_at f g i ≡ true → differing f g i to ≡ i ∷ differing f g (i + 1) to
   differs_here h e = one_more h ∙ ap (λ (t : Bool). cond t (i ∷ differing f g (i + 1) to) (differing f g (i + 1) to)) e
 
-  pub same_here : i < to → differs_at f g i ≡ false → differing f g i to ≡ differing f g (i + 1) to
+  same_here : i < to → differs_at f g i ≡ false → differing f g i to ≡ differing f g (i + 1) to
   same_here h e = one_more h ∙ ap (λ (t : Bool). cond t (i ∷ differing f g (i + 1) to) (differing f g (i + 1) to)) e
-
-  -- what was counted is all, where none is left
-  pub counted-all : {count n : ℕ} → to ≤ i → count + length (differing f g i to) ≡ n → count ≡ n
-  counted-all h e = omega (arith, ap length (none_left h))
 
 -- the first place that differs: none before it does
 pub record First (f g : Grid) (from to place : ℕ) : Type 0 where

@@ -1,10 +1,11 @@
-ghost use Rattle.std.specs.Prelude.{◌≡◌};
+ghost use Rattle.std.specs.Prelude.{◌≡◌, ◌*◌, ◌≤◌, ◌<◌, MatchResult};
 ghost use Rattle.grid.specs.Grid.{grid_of};
 ghost use Rattle.compare.specs.Answer.{compare_refusal, compare_answer, next_answer};
 
 use crate::cells::{count_differing, next_differing};
-use grid::cells::room;
+use grid::lent::GridRef;
 use gridfile::read::Shape;
+use refusal::kinds::Refusal;
 
 // A number of document 02, how many places differ from a cell on, and the first of them.
 #[repr(C)]
@@ -23,30 +24,30 @@ pub struct Place {
     pub place: u64,
 }
 
-// What the two files were refused with, then refusals 14 and 13.
-pub fn compare_refusal(first: Shape, first_room: usize, second: Shape, second_room: usize) -> u32
-    ensures { result ≡ compare_refusal first first_room second second_room }
+// The cells that both grids have, or what the two files were refused with, then refusals 14 and 13. A refusal is a number, since a
+// caller in C can pass a shape with any.
+pub fn cells_of_both(
+    first: Shape,
+    first_room: usize,
+    second: Shape,
+    second_room: usize,
+) -> Result<usize, u32>
+    ensures { MatchResult result (λ cells. (compare_refusal first first_room second second_room ≡ 0) × (cells ≡ first.columns * first.rows) × (cells ≤ first_room) × (cells ≤ second_room)) (λ code. (code ≡ compare_refusal first first_room second second_room) × (0 < code)) }
 {
     if first.code != 0 {
-        return first.code;
+        return Err(first.code);
     }
     if second.code != 0 {
-        return second.code;
+        return Err(second.code);
     }
-    if first.columns != second.columns {
-        return 14;
-    }
-    if first.rows != second.rows {
-        return 14;
+    if first.columns != second.columns || first.rows != second.rows {
+        return Err(Refusal::Shapes.number());
     }
     let cells = (first.columns as usize) * (first.rows as usize);
-    if first_room < cells {
-        return 13;
+    if first_room.min(second_room) < cells {
+        return Err(Refusal::Room.number());
     }
-    if second_room < cells {
-        return 13;
-    }
-    0
+    Ok(cells)
 }
 
 pub fn lockdapple_grids_compare(
@@ -62,42 +63,32 @@ pub fn lockdapple_grids_compare(
 ) -> Comparison
     ensures { result ≡ compare_answer first (grid_of first_rows.now first_cols.now first_sads.now) second (grid_of second_rows.now second_cols.now second_sads.now) from }
 {
-    let first_room = room(first_rows.len(), first_cols.len(), first_sads.len());
-    let second_room = room(second_rows.len(), second_cols.len(), second_sads.len());
-    let code = compare_refusal(first, first_room, second, second_room);
-    if code != 0 {
-        return Comparison {
+    let f = GridRef {
+        rows: first_rows,
+        cols: first_cols,
+        sads: first_sads,
+    };
+    let g = GridRef {
+        rows: second_rows,
+        cols: second_cols,
+        sads: second_sads,
+    };
+    match cells_of_both(first, f.room(), second, g.room()) {
+        Err(code) => Comparison {
             code,
             count: 0,
             first: 0,
-        };
-    }
-    let cells = (first.columns as usize) * (first.rows as usize);
-    let next = next_differing(
-        first_rows,
-        first_cols,
-        first_sads,
-        second_rows,
-        second_cols,
-        second_sads,
-        from,
-        cells,
-    );
-    // Nothing before it differs.
-    let count = count_differing(
-        first_rows,
-        first_cols,
-        first_sads,
-        second_rows,
-        second_cols,
-        second_sads,
-        next,
-        cells,
-    );
-    Comparison {
-        code: 0,
-        count: count as u64,
-        first: next as u64,
+        },
+        Ok(cells) => {
+            let next = next_differing(&f, &g, from, cells).unwrap_or(cells);
+            // Nothing before it differs.
+            let count = count_differing(&f, &g, next, cells);
+            Comparison {
+                code: 0,
+                count: count as u64,
+                first: next as u64,
+            }
+        }
     }
 }
 
@@ -115,25 +106,24 @@ pub fn lockdapple_grids_next(
 ) -> Place
     ensures { result ≡ next_answer first (grid_of first_rows.now first_cols.now first_sads.now) second (grid_of second_rows.now second_cols.now second_sads.now) from }
 {
-    let first_room = room(first_rows.len(), first_cols.len(), first_sads.len());
-    let second_room = room(second_rows.len(), second_cols.len(), second_sads.len());
-    let code = compare_refusal(first, first_room, second, second_room);
-    if code != 0 {
-        return Place { code, place: 0 };
-    }
-    let cells = (first.columns as usize) * (first.rows as usize);
-    let place = next_differing(
-        first_rows,
-        first_cols,
-        first_sads,
-        second_rows,
-        second_cols,
-        second_sads,
-        from,
-        cells,
-    );
-    Place {
-        code: 0,
-        place: place as u64,
+    let f = GridRef {
+        rows: first_rows,
+        cols: first_cols,
+        sads: first_sads,
+    };
+    let g = GridRef {
+        rows: second_rows,
+        cols: second_cols,
+        sads: second_sads,
+    };
+    match cells_of_both(first, f.room(), second, g.room()) {
+        Err(code) => Place { code, place: 0 },
+        Ok(cells) => {
+            let place = next_differing(&f, &g, from, cells).unwrap_or(cells);
+            Place {
+                code: 0,
+                place: place as u64,
+            }
+        }
     }
 }
