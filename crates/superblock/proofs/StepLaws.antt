@@ -17,6 +17,8 @@ use Rattle.motion.specs.Superblock.{superblocks}
 use Rattle.grid.specs.declared.cells.MEStats.{MEStats}
 use Rattle.grid.specs.Grid.{Grid, Held, cell_at, stats_at}
 use Rattle.grid.specs.Previous.{Previous}
+use Rattle.grid.specs.declared.lent.GridMut.{GridMut}
+use Rattle.grid.specs.Lent.{SameBuffers}
 use Rattle.grid.specs.Save.{covers, save_block}
 use Rattle.grid.proofs.SaveLaws.{save_lengths, read_outside}
 use Rattle.points.specs.Window.{refine_window, window_ok}
@@ -43,6 +45,21 @@ held-long long held =
       rows = omega (arith, long.rows, held.rows);
       cols = omega (arith, long.cols, held.cols);
       sads = omega (arith, long.sads, held.sads);
+    }
+
+-- a call that leaves three buffers in place, and one after another
+pub same-none : (g : GridMut) → SameBuffers g g
+same-none g = record { rows = refl; cols = refl; sads = refl; rows_length = refl; cols_length = refl; sads_length = refl }
+
+pub same-more : {g now next : GridMut} → SameBuffers g now → SameBuffers now next → SameBuffers g next
+same-more a b =
+    record {
+      rows = b.rows ∙ a.rows;
+      cols = b.cols ∙ a.cols;
+      sads = b.sads ∙ a.sads;
+      rows_length = b.rows_length ∙ a.rows_length;
+      cols_length = b.cols_length ∙ a.cols_length;
+      sads_length = b.sads_length ∙ a.sads_length;
     }
 
 pub save_long : (width height size bx by : ℕ) (stats : MEStats) (g : Grid) → AsLong g (save_block width height size bx by stats g)
@@ -120,6 +137,11 @@ module _ {width height n : ℕ} (level : ℕ) (wide : Side width) (high : Side h
       let size = (level_of level).refined in
       window_by width height level (block_x width size n k) (block_y width size n k) g (worked result width height size n j g)
       (first-stays result width height size n (refined_tabled level) wide high h j k order (refined_below width height level n below) g)
+
+-- whether a refinement's window is not empty
+abbrev pub passes : (width height level n : ℕ) (rows cols : List ℤ) → ℕ → Bool
+passes width height level n rows cols k =
+    window_ok (window_at width height level (block_x width (level_of level).refined n k) (block_y width (level_of level).refined n k) rows cols)
 
 -- where none is empty, each is not
 pub window_passes : (width height level n : ℕ) (rows cols : List ℤ) → windows_ok width height level n rows cols ≡ true → (k : ℕ) → k < refined_count width height level n

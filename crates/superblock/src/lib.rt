@@ -1,4 +1,5 @@
 // A superblock step.
 #![tactic(auto)]
 
+mod blocks;
 pub mod step;

@@ -1,177 +1,116 @@
-ghost use Rattle.std.specs.Prelude.{◌≡◌, true, ◌*◌, ◌≤◌, ◌<◌, length};
-ghost use Rattle.motion.specs.Frame.{Side};
-ghost use Rattle.motion.specs.Limits.{largest_side, cell_side, superblock_side};
+ghost use Rattle.std.specs.Prelude.{◌≡◌, true, ◌≤◌, ◌<◌, cond, eqb, length};
 ghost use Rattle.motion.specs.Superblock.{superblocks};
-ghost use Rattle.grid.specs.Grid.{grid_of, Held, cells};
+ghost use Rattle.grid.specs.Grid.{Held, cells};
 ghost use Rattle.grid.specs.Previous.{HeldIf};
-ghost use Rattle.estimate.specs.Inputs.{inputs_in, previous_in};
-ghost use Rattle.estimate.specs.Asked.{Ready, Leveled};
-ghost use Rattle.superblock.specs.Step.{blocks_along, block_count, block_x, block_y, refined_count, windows_ok, refinements, estimates, step};
+ghost use Rattle.grid.specs.Lent.{lent, lent_mut, previous_lent, SameBuffers};
+ghost use Rattle.refusal.specs.Kinds.{code_of};
+ghost use Rattle.refusal.specs.Refusals.{refuse};
+ghost use Rattle.estimate.specs.Lent.{inputs_lent};
+ghost use Rattle.superblock.specs.Step.{block_count, windows_ok, refinements, estimates, step};
 
+use crate::blocks::Blocks;
 use estimate::block::{estimate_motion, refine_motion, window_at};
-use estimate::step::Step;
-use grid::save::save_me_stats;
+use estimate::inputs::LevelInputs;
+use grid::lent::{GridMut, GridRef};
 use motion::level::level_of;
-use motion::limits::{CELL_SIDE, SB_SIZE};
-use motion::superblocks::{superblock_x, superblock_y};
+use refusal::kinds::Refusal;
 
-// How many blocks of a size lie along a side of the superblock whose first cell is b.
-fn blocks_along(side: usize, mv_size: usize, b: usize) -> usize
-    requires { (side ≤ largest_side) × (cell_side * b ≤ side) × (0 < mv_size) × (mv_size ≤ superblock_side) }
-    ensures { result ≡ blocks_along side mv_size b }
+// How many of its blocks a level refines: level 4 none.
+fn refined_count(level: usize, blocks: &Blocks) -> usize
+    ensures { result ≡ cond (eqb level 4) 0 (block_count blocks.now.width blocks.now.height blocks.now.mv_size blocks.now.superblock) }
 {
-    let left = side - CELL_SIDE * b;
-    let extent = if left < SB_SIZE { left } else { SB_SIZE };
-    (extent + (mv_size - 1)) / mv_size
+    if level == 4 { 0 } else { blocks.count() }
 }
 
-// How many blocks of a size a superblock has.
-fn block_count(width: usize, height: usize, mv_size: usize, superblock: usize) -> usize
-    requires { Side width × Side height × (superblock < superblocks width height) × (0 < mv_size) × (mv_size ≤ superblock_side) }
-    ensures { result ≡ block_count width height mv_size superblock }
+// Whether no refinement of a step has an empty window. A loop, since a closure of `all` is not told that k is below the count.
+fn windows_ok(inputs: &LevelInputs<'_>, superblock: usize, grid: &GridRef<'_>) -> bool
+    requires inside { superblock < superblocks inputs.now.width inputs.now.height }
+    requires in_bounds { (cells inputs.now.width inputs.now.height ≤ length grid.now.rows.now) × (cells inputs.now.width inputs.now.height ≤ length grid.now.cols.now) }
+    ensures { result ≡ windows_ok inputs.now.width inputs.now.height inputs.now.level superblock grid.now.rows.now grid.now.cols.now }
 {
-    let across = blocks_along(width, mv_size, superblock_x(width, superblock));
-    across * blocks_along(height, mv_size, superblock_y(width, superblock))
-}
-
-// The column of block k of a superblock.
-fn block_x(width: usize, mv_size: usize, superblock: usize, k: usize) -> usize
-    requires { Side width × (0 < mv_size) × (mv_size ≤ superblock_side) }
-    ensures { result ≡ block_x width mv_size superblock k }
-{
-    let first = superblock_x(width, superblock);
-    first + mv_size / CELL_SIDE * (k % blocks_along(width, mv_size, first))
-}
-
-// The row of block k of a superblock.
-fn block_y(width: usize, mv_size: usize, superblock: usize, k: usize) -> usize
-    requires { Side width × (superblock ≤ largest_side) × (0 < mv_size) × (mv_size ≤ superblock_side) × (k ≤ largest_side) }
-    ensures { result ≡ block_y width mv_size superblock k }
-{
-    let across = blocks_along(width, mv_size, superblock_x(width, superblock));
-    superblock_y(width, superblock) + mv_size / CELL_SIDE * (k / across)
-}
-
-// How many refinements a step has.
-fn refined_count(width: usize, height: usize, level: usize, superblock: usize) -> usize
-    requires { Side width × Side height × Leveled level × (superblock < superblocks width height) }
-    ensures { result ≡ refined_count width height level superblock }
-{
-    if level == 4 {
-        return 0;
-    }
-    block_count(width, height, level_of(level).refined, superblock)
-}
-
-// Whether no refinement of a step has an empty window.
-fn windows_ok(s: Step, rows: &[i16], cols: &[i16]) -> bool
-    requires side { Side s.frame.width × Side s.frame.height × Leveled s.level × (s.superblock < superblocks s.frame.width s.frame.height) }
-    requires height_in_bounds { (cells s.frame.width s.frame.height ≤ length rows.now) × (cells s.frame.width s.frame.height ≤ length cols.now) }
-    ensures { result ≡ windows_ok s.frame.width s.frame.height s.level s.superblock rows.now cols.now }
-{
-    let width = s.frame.width;
-    let superblock = s.superblock;
-    let mv_size = level_of(s.level).refined;
-    let count = refined_count(width, s.frame.height, s.level, superblock);
-    let mut k = 0;
-    while k < count {
-        let bx = block_x(width, mv_size, superblock, k);
-        let by = block_y(width, mv_size, superblock, k);
-        if !window_at(s, bx, by, rows, cols).ok() {
+    let blocks = Blocks {
+        width: inputs.width,
+        height: inputs.height,
+        mv_size: level_of(inputs.level).refined,
+        superblock,
+    };
+    for k in 0..refined_count(inputs.level, &blocks) {
+        let bx = blocks.x(k);
+        let by = blocks.y(k);
+        if !window_at(inputs.width, inputs.height, inputs.level, bx, by, grid).ok() {
             return false;
         }
-        k += 1;
     }
     true
 }
 
 // The refinements of a superblock, none of whose windows is empty.
-fn refine_sb_motion(
-    s: Step,
-    cur: &[u8],
-    reference: &[u8],
-    rows: &mut [i16],
-    cols: &mut [i16],
-    sads: &mut [u32],
-)
-    requires ready { Ready (inputs_in s.frame s.level cur.now reference.now) × (s.superblock < superblocks s.frame.width s.frame.height) }
-    requires held { Held s.frame.width s.frame.height (grid_of rows.old cols.old sads.old) }
-    requires cols_value { windows_ok s.frame.width s.frame.height s.level s.superblock rows.old cols.old ≡ true }
-    ensures { grid_of rows.new cols.new sads.new ≡ refinements (inputs_in s.frame s.level cur.now reference.now) s.superblock (grid_of rows.old cols.old sads.old) }
+fn refine_sb_motion(inputs: &LevelInputs<'_>, superblock: usize, grid: &mut GridMut<'_>)
+    requires inside { superblock < superblocks inputs.now.width inputs.now.height }
+    requires held { Held inputs.now.width inputs.now.height (lent_mut grid.old) }
+    requires some_windows { windows_ok inputs.now.width inputs.now.height inputs.now.level superblock grid.old.rows.now grid.old.cols.now ≡ true }
+    ensures refined { lent_mut grid.new ≡ refinements (inputs_lent inputs.now) superblock (lent_mut grid.old) }
+    ensures same { SameBuffers grid.old grid.new }
 {
-    let width = s.frame.width;
-    let height = s.frame.height;
-    let superblock = s.superblock;
-    let mv_size = level_of(s.level).refined;
-    let count = refined_count(width, height, s.level, superblock);
-    let mut k = 0;
-    while k < count {
-        let bx = block_x(width, mv_size, superblock, k);
-        let by = block_y(width, mv_size, superblock, k);
-        let stats = refine_motion(s, bx, by, cur, reference, &*rows, &*cols);
-        save_me_stats(width, height, mv_size, bx, by, stats, rows, cols, sads);
-        k += 1;
+    let blocks = Blocks {
+        width: inputs.width,
+        height: inputs.height,
+        mv_size: level_of(inputs.level).refined,
+        superblock,
+    };
+    for k in 0..refined_count(inputs.level, &blocks) {
+        let bx = blocks.x(k);
+        let by = blocks.y(k);
+        let stats = refine_motion(inputs, bx, by, &grid.read());
+        grid.save_me_stats(inputs.width, inputs.height, blocks.mv_size, bx, by, stats);
     }
 }
 
-// The blocks of a superblock.
+// The blocks of a superblock. A loop of its own: what a refinement asks of its window is nothing to ask of a search.
 fn estimate_sb_motion(
-    s: Step,
-    cur: &[u8],
-    reference: &[u8],
-    prev_rows: &[i16],
-    prev_cols: &[i16],
-    prev_sads: &[u32],
-    rows: &mut [i16],
-    cols: &mut [i16],
-    sads: &mut [u32],
+    inputs: &LevelInputs<'_>,
+    superblock: usize,
+    prev: Option<GridRef<'_>>,
+    grid: &mut GridMut<'_>,
 )
-    requires ready { Ready (inputs_in s.frame s.level cur.now reference.now) × (s.superblock < superblocks s.frame.width s.frame.height) }
-    requires held_if { HeldIf s.frame.width s.frame.height (previous_in s.frame (grid_of prev_rows.now prev_cols.now prev_sads.now)) }
-    requires held { Held s.frame.width s.frame.height (grid_of rows.old cols.old sads.old) }
-    ensures { grid_of rows.new cols.new sads.new ≡ estimates (inputs_in s.frame s.level cur.now reference.now) (previous_in s.frame (grid_of prev_rows.now prev_cols.now prev_sads.now)) s.superblock (grid_of rows.old cols.old sads.old) }
+    requires inside { superblock < superblocks inputs.now.width inputs.now.height }
+    requires held_if { HeldIf inputs.now.width inputs.now.height (previous_lent prev) }
+    requires held { Held inputs.now.width inputs.now.height (lent_mut grid.old) }
+    ensures estimated { lent_mut grid.new ≡ estimates (inputs_lent inputs.now) (previous_lent prev.entry) superblock (lent_mut grid.old) }
+    ensures same { SameBuffers grid.old grid.new }
 {
-    let width = s.frame.width;
-    let height = s.frame.height;
-    let superblock = s.superblock;
-    let mv_size = level_of(s.level).mv_size;
-    let count = block_count(width, height, mv_size, superblock);
-    let mut k = 0;
-    while k < count {
-        let bx = block_x(width, mv_size, superblock, k);
-        let by = block_y(width, mv_size, superblock, k);
-        let stats = estimate_motion(
-            s, bx, by, cur, reference, prev_rows, prev_cols, prev_sads, &*rows, &*cols, &*sads,
-        );
-        save_me_stats(width, height, mv_size, bx, by, stats, rows, cols, sads);
-        k += 1;
+    let blocks = Blocks {
+        width: inputs.width,
+        height: inputs.height,
+        mv_size: level_of(inputs.level).mv_size,
+        superblock,
+    };
+    for k in 0..blocks.count() {
+        let bx = blocks.x(k);
+        let by = blocks.y(k);
+        let stats = estimate_motion(inputs, bx, by, prev, &grid.read());
+        grid.save_me_stats(inputs.width, inputs.height, blocks.mv_size, bx, by, stats);
     }
 }
 
-// One superblock at one level. False, with the grid as it stood, where a window is empty.
+// One superblock at one level. Where a window is empty the grid stays as it stood.
 pub fn superblock_step(
-    s: Step,
-    cur: &[u8],
-    reference: &[u8],
-    prev_rows: &[i16],
-    prev_cols: &[i16],
-    prev_sads: &[u32],
-    rows: &mut [i16],
-    cols: &mut [i16],
-    sads: &mut [u32],
-) -> bool
-    requires ready { Ready (inputs_in s.frame s.level cur.now reference.now) × (s.superblock < superblocks s.frame.width s.frame.height) }
-    requires held_if { HeldIf s.frame.width s.frame.height (previous_in s.frame (grid_of prev_rows.now prev_cols.now prev_sads.now)) }
-    requires held { Held s.frame.width s.frame.height (grid_of rows.old cols.old sads.old) }
-    ensures value { result ≡ windows_ok s.frame.width s.frame.height s.level s.superblock rows.old cols.old }
-    ensures sads_value { grid_of rows.new cols.new sads.new ≡ step (inputs_in s.frame s.level cur.now reference.now) (previous_in s.frame (grid_of prev_rows.now prev_cols.now prev_sads.now)) s.superblock (grid_of rows.old cols.old sads.old) }
+    inputs: &LevelInputs<'_>,
+    superblock: usize,
+    prev: Option<GridRef<'_>>,
+    grid: &mut GridMut<'_>,
+) -> Result<(), Refusal>
+    requires inside { superblock < superblocks inputs.now.width inputs.now.height }
+    requires held_if { HeldIf inputs.now.width inputs.now.height (previous_lent prev) }
+    requires held { Held inputs.now.width inputs.now.height (lent_mut grid.old) }
+    ensures refusal { code_of result ≡ refuse 8 (windows_ok inputs.now.width inputs.now.height inputs.now.level superblock grid.old.rows.now grid.old.cols.now) }
+    ensures stepped { lent_mut grid.new ≡ step (inputs_lent inputs.now) (previous_lent prev.entry) superblock (lent_mut grid.old) }
+    ensures same { SameBuffers grid.old grid.new }
 {
-    if !windows_ok(s, &*rows, &*cols) {
-        return false;
+    if !windows_ok(inputs, superblock, &grid.read()) {
+        return Err(Refusal::Window);
     }
-    refine_sb_motion(s, cur, reference, rows, cols, sads);
-    estimate_sb_motion(
-        s, cur, reference, prev_rows, prev_cols, prev_sads, rows, cols, sads,
-    );
-    true
+    refine_sb_motion(inputs, superblock, grid);
+    estimate_sb_motion(inputs, superblock, prev, grid);
+    Ok(())
 }

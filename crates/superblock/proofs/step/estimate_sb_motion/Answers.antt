@@ -1,102 +1,109 @@
 -- `superblock::step::estimate_sb_motion` meets its contract: before turn k the grid is that after the first k blocks.
-use mathlib.Core.Path.{◌≡◌, sym, ap, subst, ◌∙◌}
-use Prim.Native.Nat.{ℕ, ◌≤◌, ◌<◌}
-use native.Mathlib.Omega.{arith}
+use Rattle.std.proofs.Common.{◌≡◌, ℕ, ◌≤◌, ◌<◌, sym, ap, subst, ◌∙◌, arith}
 use Rattle.motion.specs.declared.level.Level.{Level}
-use Rattle.motion.specs.Limits.{largest_side, superblock_side}
-use Rattle.motion.specs.Frame.{Side, Starts}
+use Rattle.motion.specs.Limits.{superblock_side}
+use Rattle.motion.specs.Frame.{Starts}
 use Rattle.motion.specs.Level.{level_of}
 use Rattle.grid.specs.declared.cells.MEStats.{MEStats}
-use Rattle.grid.specs.Grid.{Grid, grid_of}
-use Rattle.estimate.specs.Inputs.{inputs_in, previous_in}
+use Rattle.grid.specs.Grid.{Grid, Held}
+use Rattle.grid.specs.Lent.{lent_mut, previous_lent}
 use Rattle.estimate.specs.Block.{estimate_motion}
 use Rattle.superblock.specs.Step.{block_count, block_x, block_y, worked, estimates}
-use Rattle.superblock.proofs.GeometryLaws.{Tabled, own-tabled, tabled_bounds, place-asked, placed_at}
-use Rattle.superblock.proofs.StepLaws.{worked-none, worked-turn}
-use Rattle.superblock.proofs.step.estimate_sb_motion.Goals.{At-loop-k, In-loop-k, After-block_x-bx, After-block_y-by}
+use Rattle.superblock.proofs.StepLaws.{AsLong, held-long, same-none, same-more, worked-none, worked-turn, worked-long}
+use Rattle.estimate.specs.Lent.{inputs_lent}
+use Rattle.superblock.proofs.GeometryLaws.{Tabled, own-tabled, tabled_bounds, count_most, placed_at}
+use Rattle.superblock.proofs.step.estimate_sb_motion.Goals.{After-level_of, At-loop-k, After-count-k-end, In-loop-k, After-x-bx, After-y-by}
 use Rattle.superblock.proofs.step.estimate_sb_motion.Goals as goal
 
-abbrev size : At-loop-k → ℕ
-size c = (level_of c.args.s.level).mv_size
-
+-- what a block's turn saves
 abbrev result : At-loop-k → ℕ → ℕ → Grid → MEStats
-result c =
-    let a = c.args in
-    estimate_motion (inputs_in a.s.frame a.s.level a.cur.now a.reference.now) (previous_in a.s.frame (grid_of a.prev_rows.now a.prev_cols.now a.prev_sads.now))
+result c = estimate_motion (inputs_lent c.args.inputs.now) (previous_lent c.args.prev)
 
 abbrev first : At-loop-k → Grid
-first c = grid_of c.args.rows.now c.args.cols.now c.args.sads.now
+first c = lent_mut c.args.grid.now
 
-size_is : (c : At-loop-k) → c.level_of-mv_size.result.mv_size ≡ size c
-size_is c = ap (λ (l : Level). l.mv_size) c.level_of-mv_size.ensures
+long_now : (c : At-loop-k) → AsLong (first c) (lent_mut c.loop-k.grid)
+long_now c =
+    let i = c.args.inputs.now in
+    subst (AsLong (first c)) (sym c.loop-k.invariant.estimated) (worked-long (result c) i.width i.height (level_of i.level).mv_size c.args.superblock c.loop-k.k (first c))
+
+held-now : (c : At-loop-k) → Held c.args.inputs.now.width c.args.inputs.now.height (lent_mut c.loop-k.grid)
+held-now c = held-long (long_now c) c.requires.held
+
+-- how many blocks there are
+blocks_are : (c : After-count-k-end) → c.count-k-end.result ≡ block_count c.args.inputs.now.width c.args.inputs.now.height (level_of c.args.inputs.now.level).mv_size c.args.superblock
+blocks_are c =
+    c.count-k-end.ensures ∙ ap (λ (l : Level). block_count c.args.inputs.now.width c.args.inputs.now.height l.mv_size c.args.superblock) c.level_of.ensures
 
 -- in a turn: the number of the block, and its place
-turn_below : (c : In-loop-k) → c.loop-k.k < block_count c.args.s.frame.width c.args.s.frame.height (size (goal.at.In-loop-k c).At-loop-k) c.args.s.superblock
-turn_below c =
-    let a = c.args in
-    omega (arith, c.loop-k-test.true, c.block_count-count.ensures, ap (λ (size : ℕ). block_count a.s.frame.width a.s.frame.height size a.s.superblock) (size_is (goal.at.In-loop-k c).At-loop-k))
+turn_below : (c : In-loop-k) → c.loop-k.k < block_count c.args.inputs.now.width c.args.inputs.now.height (level_of c.args.inputs.now.level).mv_size c.args.superblock
+turn_below c = omega (arith, c.loop-k-test.true, blocks_are (goal.at.In-loop-k c).After-count-k-end)
 
-asked : (c : In-loop-k) → Side c.args.s.frame.width × (c.args.s.superblock ≤ largest_side) × (0 < c.level_of-mv_size.result.mv_size) × (c.level_of-mv_size.result.mv_size ≤ superblock_side) × (c.loop-k.k ≤ largest_side)
-asked c =
-    let a = c.args in
-    let pre = c.requires.ready in
-    place-asked (own-tabled a.s.level) pre.0.wide pre.0.high pre.1 (size_is (goal.at.In-loop-k c).At-loop-k) c.loop-k.k (turn_below c)
+column_is : (c : After-x-bx) → c.x-bx.result ≡ block_x c.args.inputs.now.width (level_of c.args.inputs.now.level).mv_size c.args.superblock c.loop-k.k
+column_is c = c.x-bx.ensures ∙ ap (λ (l : Level). block_x c.args.inputs.now.width l.mv_size c.args.superblock c.loop-k.k) c.level_of.ensures
 
-column_is : (c : After-block_x-bx) → c.block_x-bx.result ≡ block_x c.args.s.frame.width (size (goal.at.After-block_x-bx c).At-loop-k) c.args.s.superblock c.loop-k.k
-column_is c =
-    let a = c.args in
-    c.block_x-bx.ensures ∙ ap (λ (size : ℕ). block_x a.s.frame.width size a.s.superblock c.loop-k.k) (size_is (goal.at.After-block_x-bx c).At-loop-k)
+row_is : (c : After-y-by) → c.y-by.result ≡ block_y c.args.inputs.now.width (level_of c.args.inputs.now.level).mv_size c.args.superblock c.loop-k.k
+row_is c = c.y-by.ensures ∙ ap (λ (l : Level). block_y c.args.inputs.now.width l.mv_size c.args.superblock c.loop-k.k) c.level_of.ensures
 
-row_is : (c : After-block_y-by) → c.block_y-by.result ≡ block_y c.args.s.frame.width (size (goal.at.After-block_y-by c).At-loop-k) c.args.s.superblock c.loop-k.k
-row_is c =
-    let a = c.args in
-    c.block_y-by.ensures ∙ ap (λ (size : ℕ). block_y a.s.frame.width size a.s.superblock c.loop-k.k) (size_is (goal.at.After-block_y-by c).At-loop-k)
-
-starts_now : (c : After-block_y-by) → Starts c.args.s.frame.width (size (goal.at.After-block_y-by c).At-loop-k) c.block_x-bx.result × Starts c.args.s.frame.height (size (goal.at.After-block_y-by c).At-loop-k) c.block_y-by.result
+starts_now : (c : After-y-by) → Starts c.args.inputs.now.width (level_of c.args.inputs.now.level).mv_size c.x-bx.result × Starts c.args.inputs.now.height (level_of c.args.inputs.now.level).mv_size c.y-by.result
 starts_now c =
-    let a = c.args in
-    let pre = c.requires.ready in
-    placed_at (own-tabled a.s.level) pre.0.wide pre.0.high pre.1 c.loop-k.k (turn_below (goal.at.After-block_y-by c).In-loop-k) (column_is (goal.at.After-block_y-by c).After-block_x-bx) (row_is c)
+    let i = c.args.inputs.now in
+    placed_at (own-tabled i.level) i.wide i.high c.requires.inside c.loop-k.k (turn_below (goal.at.After-y-by c).In-loop-k) (column_is (goal.at.After-y-by c).After-x-bx) (row_is c)
 
-pub block_count-count-requires : goal.block_count-count-requires
-block_count-count-requires c =
-    let pre = c.requires.ready in
-    let bounds = tabled_bounds (subst (λ (l : Level). Tabled l.mv_size) (sym c.level_of-mv_size.ensures) (own-tabled c.args.s.level)) in
-    (pre.0.wide, pre.0.high, pre.1, bounds.0, bounds.1)
+-- the size is one of the table
+size_bounds : (c : After-level_of) → (0 < c.level_of.result.mv_size) × (c.level_of.result.mv_size ≤ superblock_side)
+size_bounds c = tabled_bounds (subst (λ (l : Level). Tabled l.mv_size) (sym c.level_of.ensures) (own-tabled c.args.inputs.now.level))
+
+pub invariant_of-blocks : goal.invariant_of-blocks
+invariant_of-blocks c =
+    let bounds = size_bounds c in
+    record { wide = c.args.inputs.now.wide; high = c.args.inputs.now.high; some = bounds.0; most = bounds.1; inside = c.requires.inside }
 
 pub loop-k-init : goal.loop-k-init
 loop-k-init c =
-    let a = c.args in
-    (omega arith, sym (worked-none (estimate_motion (inputs_in a.s.frame a.s.level a.cur.now a.reference.now) (previous_in a.s.frame (grid_of a.prev_rows.now a.prev_cols.now a.prev_sads.now))) a.s.frame.width a.s.frame.height (level_of a.s.level).mv_size a.s.superblock (grid_of a.rows.now a.cols.now a.sads.now)))
+    let i = c.args.inputs.now in
+    record {
+      estimated = sym (worked-none (estimate_motion (inputs_lent i) (previous_lent c.args.prev)) i.width i.height (level_of i.level).mv_size c.args.superblock (lent_mut c.args.grid.now));
+      same = same-none c.args.grid.now;
+    }
 
-pub block_x-bx-requires : goal.block_x-bx-requires
-block_x-bx-requires c = ((asked c).0, (asked c).2, (asked c).3)
-
-pub block_y-by-requires : goal.block_y-by-requires
-block_y-by-requires c = asked (goal.at.block_y-by-requires c).In-loop-k
+pub y-by-requires : goal.y-by-requires
+y-by-requires c =
+    let i = c.args.inputs.now in
+    omega (arith, (turn_below (goal.at.y-by-requires c).In-loop-k), count_most (own-tabled i.level) i.wide i.high c.requires.inside)
 
 pub estimate_motion-stats-requires-clause-starts : goal.estimate_motion-stats-requires-clause-starts
-estimate_motion-stats-requires-clause-starts c =
-    let pre = c.requires in
-    starts_now (goal.at.estimate_motion-stats-requires-clause-starts c).After-block_y-by
+estimate_motion-stats-requires-clause-starts c = starts_now (goal.at.estimate_motion-stats-requires-clause-starts c).After-y-by
 
-pub save_me_stats-requires-clause-width_le_largest_side : goal.save_me_stats-requires-clause-width_le_largest_side
-save_me_stats-requires-clause-width_le_largest_side c =
-    let ready = c.requires.ready.0 in
-    let starts = starts_now (goal.at.save_me_stats-requires-clause-width_le_largest_side c).After-block_y-by in
-    (ready.wide.most, ready.high.most, omega (arith, (asked (goal.at.save_me_stats-requires-clause-width_le_largest_side c).In-loop-k).3), starts.0.inside, starts.1.inside)
+pub estimate_motion-stats-requires-clause-held : goal.estimate_motion-stats-requires-clause-held
+estimate_motion-stats-requires-clause-held c =
+    subst (Held c.args.inputs.now.width c.args.inputs.now.height) (sym c.read.ensures) (held-now (goal.at.estimate_motion-stats-requires-clause-held c).At-loop-k)
+
+pub save_me_stats-requires : goal.save_me_stats-requires
+save_me_stats-requires c =
+    let i = c.args.inputs.now in
+    let starts = starts_now (goal.at.save_me_stats-requires c).After-y-by in
+    let size = size_bounds (goal.at.save_me_stats-requires c).After-level_of in
+    record {
+      inside = (i.wide.most, i.high.most, omega (arith, size.1), starts.0.inside, starts.1.inside);
+      held = held-now (goal.at.save_me_stats-requires c).At-loop-k;
+    }
 
 pub loop-k-preserved : goal.loop-k-preserved
 loop-k-preserved c =
-    let a = c.args in (
-      omega (arith, c.loop-k-test.true),
-      worked-turn (result (goal.at.loop-k-preserved c).At-loop-k) a.s.frame.width a.s.frame.height (size (goal.at.loop-k-preserved c).At-loop-k) a.s.superblock c.loop-k.k (first (goal.at.loop-k-preserved c).At-loop-k)
-          (size_is (goal.at.loop-k-preserved c).At-loop-k) (column_is (goal.at.loop-k-preserved c).After-block_x-bx) (row_is (goal.at.loop-k-preserved c).After-block_y-by) c.loop-k.invariant.1 c.estimate_motion-stats.ensures c.save_me_stats.ensures,
-    )
+    let i = c.args.inputs.now in
+    let size = ap (λ (l : Level). l.mv_size) c.level_of.ensures in
+    let column = column_is (goal.at.loop-k-preserved c).After-x-bx in
+    let row = row_is (goal.at.loop-k-preserved c).After-y-by in
+    let stats = c.estimate_motion-stats.ensures ∙ ap (λ (g : Grid). estimate_motion (inputs_lent i) (previous_lent c.args.prev) c.x-bx.result c.y-by.result g) c.read.ensures in
+    record {
+      estimated = worked-turn (result (goal.at.loop-k-preserved c).At-loop-k) i.width i.height (level_of i.level).mv_size c.args.superblock c.loop-k.k (lent_mut c.args.grid.now) size column row c.loop-k.invariant.estimated stats c.save_me_stats.ensures.saved;
+      same = same-more c.loop-k.invariant.same c.save_me_stats.ensures.same;
+    }
 
-pub returns : goal.returns
+pub returns-clause-estimated : goal.returns-clause-estimated
 unfolding estimates
-returns c =
-    let a = c.args in
-    let done : c.loop-k.k ≡ block_count a.s.frame.width a.s.frame.height (size (goal.at.returns c).At-loop-k) a.s.superblock = omega (arith, c.loop-k-test.false, c.block_count-count.ensures, ap (λ (size : ℕ). block_count a.s.frame.width a.s.frame.height size a.s.superblock) (size_is (goal.at.returns c).At-loop-k)) in
-    c.loop-k.invariant.1 ∙ ap (λ (k : ℕ). worked (result (goal.at.returns c).At-loop-k) a.s.frame.width a.s.frame.height (size (goal.at.returns c).At-loop-k) a.s.superblock k (first (goal.at.returns c).At-loop-k)) done
+returns-clause-estimated c =
+    let i = c.args.inputs.now in
+    let done : c.loop-k.k ≡ block_count c.args.inputs.now.width c.args.inputs.now.height (level_of c.args.inputs.now.level).mv_size c.args.superblock = omega (arith, c.loop-k-test.false, blocks_are (goal.at.returns-clause-estimated c).After-count-k-end) in
+    c.loop-k.invariant.estimated ∙ ap (λ (k : ℕ). worked (result (goal.at.returns-clause-estimated c).At-loop-k) i.width i.height (level_of i.level).mv_size c.args.superblock k (lent_mut c.args.grid.now)) done
