@@ -23,6 +23,7 @@ impl MvRange {
     }
 }
 
+#[tactic(auto, using(std::proofs::lemmas::Int::ints), unfolding(crate::specs::Range::within))]
 fn between(low: i16, x: i16, high: i16) -> bool
     ensures { result ≡ within low x high }
 {
@@ -52,6 +53,7 @@ fn mv_max(in_b: usize, b: usize, ssdec: u32) -> i16
 }
 
 // The range of the block of blk_w by blk_h full-size pixels at cell (bx, by), at shift ssdec.
+#[tactic(auto, using(std::proofs::lemmas::Int::ints), unfolding(crate::specs::Range::range_of))]
 pub(crate) fn get_mv_range(
     w_in_b: usize,
     h_in_b: usize,

@@ -13,6 +13,7 @@ pub fn superblocks_along(side: usize) -> usize
 }
 
 // How many superblocks a frame has.
+#[tactic(auto, unfolding(crate::specs::Superblock::superblocks))]
 pub fn superblocks_of(width: usize, height: usize) -> usize
     requires { (width ≤ largest_side) × (height ≤ largest_side) }
     ensures { result ≡ superblocks width height }
@@ -21,6 +22,7 @@ pub fn superblocks_of(width: usize, height: usize) -> usize
 }
 
 // The column of a superblock's first cell.
+#[tactic(auto, unfolding(crate::specs::Superblock::superblock_x))]
 pub fn superblock_x(width: usize, superblock: usize) -> usize
     requires { (0 < width) × (width ≤ largest_side) }
     ensures { result ≡ superblock_x width superblock }
@@ -29,6 +31,7 @@ pub fn superblock_x(width: usize, superblock: usize) -> usize
 }
 
 // The row of a superblock's first cell. It stands beside `superblock_x`, since the definitions name both.
+#[tactic(auto, unfolding(crate::specs::Superblock::superblock_y))]
 pub fn superblock_y(width: usize, superblock: usize) -> usize
     requires { (0 < width) × (width ≤ largest_side) × (superblock ≤ largest_side) }
     ensures { result ≡ superblock_y width superblock }

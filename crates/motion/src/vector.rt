@@ -51,6 +51,7 @@ impl Shr<u32> for MotionVector {
 
     ghost shr_gives = { λ v s r. r ≡ shr_v v s };
 
+    #[tactic(auto, using(std::proofs::lemmas::Int::ints), unfolding(crate::specs::Vector::shr_v))]
     fn shr(self, rhs: u32) -> MotionVector {
         MotionVector {
             row: self.row >> rhs,
@@ -103,6 +104,7 @@ impl MotionVector {
         self << rhs
     }
 
+    #[tactic(auto, using(std::proofs::lemmas::Int::ints), unfolding(crate::specs::Vector::fullpel_v))]
     pub fn quantize_to_fullpel(self) -> MotionVector
         ensures { result ≡ fullpel_v self }
     {
@@ -113,6 +115,7 @@ impl MotionVector {
     }
 }
 
+#[tactic(auto, using(std::proofs::lemmas::Int::ints), unfolding(crate::specs::Vector::fullpel))]
 fn whole_pixels(component: i16) -> i16
     ensures { result ≡ fullpel component }
 {

@@ -10,11 +10,14 @@ use lib.Dec.{leb, ltb, lit≤}
 use lib.IntN.{pos, negsuc, ◌-ℤ◌}
 use lib.ListN.{get_or}
 use lib.Signed.{mag}
+use mir.Syntax.{w16}
+use mir.Val.{to_z}
+use mir.ValLaws.{to_z_pos}
 use Rattle.ground.proofs.Bias.{mag-add, mag-mul}
 use Rattle.ground.proofs.TestLaws.{both}
 use Rattle.motion.specs.declared.vector.MotionVector.{MotionVector}
-use Rattle.motion.specs.Vector.{zero_v, times_v, shl_v}
-use Rattle.motion.proofs.VectorLaws.{Short, times-short}
+use Rattle.motion.specs.Vector.{FitsV, zero_v, times_v, shl_v}
+use Rattle.motion.proofs.VectorLaws.{Short, short_fits_v, times-short}
 use Rattle.points.specs.declared.patterns.Pattern.{Pattern}
 use Rattle.points.specs.declared.patterns.Pattern.TheVariants.{Diamond, Square, RowLine, ColLine, Eighths, Umh}
 use Rattle.points.specs.Patterns.{diamond_table, square_table, umh_table, row_table, col_table, eighths_place, offset, points}
@@ -41,6 +44,10 @@ slight_short v s = record { row = omega (arith, s.row); col = omega (arith, s.co
 
 pub scaled_short : (v : MotionVector) (k : ℕ) → Slight v → k ≤ 24 → Short (times_v v (pos k))
 scaled_short v k s h = times-short v 32 k s.row s.col (omega arith)
+
+-- and the machine's product by such a number is the vector's
+pub scaled_fits : {v : MotionVector} → Slight v → (k : ℕ) → k ≤ 24 → FitsV (times_v v (to_z w16 k))
+scaled_fits {v} s k h = rw (to_z_pos w16 k (omega arith)) (short_fits_v _ (scaled_short v k s h))
 
 -- the diamond at radius 1 and 2
 pub diamond-short : (i r : ℕ) → r ≤ 1 → Short (shl_v (get_or diamond_table i zero_v) r)

@@ -76,42 +76,7 @@ pub enum Pattern {
     Umh,
 }
 
-// A small offset times a small number.
-fn scaled(v: MotionVector, k: usize) -> MotionVector
-    requires { Slight v × (k ≤ 24) }
-    ensures { result ≡ times_v v (pos k) }
-{
-    v * k as i16
-}
-
-fn diamond_offset(i: usize, radius_log2: u32) -> MotionVector
-    requires { (i < 4) × (radius_log2 ≤ 1) }
-    ensures { result ≡ offset (Pattern.Diamond radius_log2) i }
-{
-    DIAMOND_R1_PATTERN[i] << radius_log2
-}
-
-fn square_offset(i: usize) -> MotionVector
-    requires { i < 8 }
-    ensures { result ≡ offset Pattern.Square i }
-{
-    SQUARE_REFINE_PATTERN[i]
-}
-
-fn row_offset(i: usize) -> MotionVector
-    requires { i < 24 }
-    ensures { result ≡ offset Pattern.RowLine i }
-{
-    scaled(HORIZONTAL_LINE[i % 2], i / 2 * 2 + 1)
-}
-
-fn col_offset(i: usize) -> MotionVector
-    requires { i < 12 }
-    ensures { result ≡ offset Pattern.ColLine i }
-{
-    scaled(VERTICAL_LINE[i % 2], i / 2 * 2 + 1)
-}
-
+#[tactic(auto, unfolding(crate::specs::Patterns::eighths_place))]
 fn eighths_place(i: usize) -> usize
     requires { i < 24 }
     ensures { result ≡ eighths_place i }
@@ -130,27 +95,21 @@ fn eighths_offset(i: usize) -> MotionVector
     }
 }
 
-fn umh_offset(i: usize) -> MotionVector
-    requires { i < 96 }
-    ensures { result ≡ offset Pattern.Umh i }
-{
-    scaled(UMH_PATTERN[i % 16], i / 16 + 1)
-}
-
 fn pattern_offset(pattern: Pattern, i: usize) -> MotionVector
     requires { Plain pattern × (i < points pattern) }
     ensures { result ≡ offset pattern i }
 {
     match pattern {
-        Pattern::Diamond(radius_log2) => diamond_offset(i, radius_log2),
-        Pattern::Square => square_offset(i),
-        Pattern::RowLine => row_offset(i),
-        Pattern::ColLine => col_offset(i),
+        Pattern::Diamond(radius_log2) => DIAMOND_R1_PATTERN[i] << radius_log2,
+        Pattern::Square => SQUARE_REFINE_PATTERN[i],
+        Pattern::RowLine => HORIZONTAL_LINE[i % 2] * (i / 2 * 2 + 1) as i16,
+        Pattern::ColLine => VERTICAL_LINE[i % 2] * (i / 2 * 2 + 1) as i16,
         Pattern::Eighths => eighths_offset(i),
-        Pattern::Umh => umh_offset(i),
+        Pattern::Umh => UMH_PATTERN[i % 16] * (i / 16 + 1) as i16,
     }
 }
 
+#[tactic(auto, unfolding(crate::specs::Patterns::points))]
 pub fn pattern_points(pattern: Pattern) -> usize
     ensures { result ≡ points pattern }
 {
@@ -165,6 +124,7 @@ pub fn pattern_points(pattern: Pattern) -> usize
 }
 
 // Point i of a pattern round a centre.
+#[tactic(auto, unfolding(crate::specs::Patterns::point_of))]
 pub fn pattern_point(pattern: Pattern, center: MotionVector, i: usize) -> MotionVector
     requires { Plain pattern × (i < points pattern) × Near center }
     ensures { result ≡ point_of pattern center i }
@@ -173,6 +133,7 @@ pub fn pattern_point(pattern: Pattern, center: MotionVector, i: usize) -> Motion
 }
 
 // Point i of the hexagon round a centre.
+#[tactic(auto, unfolding(crate::specs::Patterns::hexagon_point))]
 pub fn hexagon_point(center: MotionVector, i: usize) -> MotionVector
     requires { (i < 6) × Near center }
     ensures { result ≡ hexagon_point center i }

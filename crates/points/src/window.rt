@@ -23,13 +23,11 @@ pub struct Window {
 
 impl Window {
     // Whether there is anything to search.
+    #[tactic(auto, unfolding(crate::specs::Window::window_ok))]
     pub fn ok(self) -> bool
         ensures { result ≡ window_ok self }
     {
-        if self.rows.count == 0 {
-            return false;
-        }
-        0 < self.cols.count
+        0 < self.rows.count && 0 < self.cols.count
     }
 }
 
@@ -39,26 +37,11 @@ fn eighth(component: i16) -> i16
     component / EIGHTHS
 }
 
-fn larger_of(a: i16, b: i16) -> i16
-    ensures { result ≡ larger a b }
-{
-    if a < b { b } else { a }
-}
-
-fn smaller_of(a: i16, b: i16) -> i16
-    ensures { result ≡ smaller a b }
-{
-    if a < b { a } else { b }
-}
-
 fn span_count(lo: i16, hi: i16) -> usize
     requires { (mag lo ≤ 8192) × (mag hi ≤ 8192) }
     ensures { result ≡ span_count lo hi }
 {
-    if hi < lo {
-        return 0;
-    }
-    (hi - lo + 1) as usize
+    (hi - lo + 1).max(0) as usize
 }
 
 // The window of a refinement on one axis, round a stored component.
@@ -67,8 +50,8 @@ fn refine_span(min: i16, max: i16, stored: i16, ssdec: u32) -> Span
     ensures { result ≡ refine_span min max stored ssdec }
 {
     let m = eighth(stored >> ssdec);
-    let lo = larger_of(m - 1, eighth(min));
-    let hi = smaller_of(m + 2, eighth(max));
+    let lo = eighth(min).max(m - 1);
+    let hi = eighth(max).min(m + 2);
     Span {
         lo,
         count: span_count(lo, hi),
@@ -76,16 +59,19 @@ fn refine_span(min: i16, max: i16, stored: i16, ssdec: u32) -> Span
 }
 
 // The window of a refinement, round a stored vector.
+#[tactic(auto, using(std::proofs::lemmas::Int::ints), unfolding(crate::specs::Window::refine_window))]
 pub fn refine_window(range: MvRange, stored: MotionVector, ssdec: u32) -> Window
     requires { ssdec < 16 }
     ensures { result ≡ refine_window range stored ssdec }
 {
-    let rows = refine_span(range.mvy_min, range.mvy_max, stored.row, ssdec);
-    let cols = refine_span(range.mvx_min, range.mvx_max, stored.col, ssdec);
-    Window { rows, cols }
+    Window {
+        rows: refine_span(range.mvy_min, range.mvy_max, stored.row, ssdec),
+        cols: refine_span(range.mvx_min, range.mvx_max, stored.col, ssdec),
+    }
 }
 
 // Offset k of a span, in eighths.
+#[tactic(auto, using(std::proofs::lemmas::Int::ints), unfolding(crate::specs::Window::span_at))]
 pub fn span_at(lo: i16, k: usize) -> i16
     requires { Spanned lo k }
     ensures { result ≡ span_at lo k }

@@ -11,7 +11,7 @@ use mir.ValLaws.{to_z-of_z}
 use Rattle.ground.proofs.Words.{back, shr_word}
 use Rattle.points.specs.Window.{larger, smaller, span_count, refine_span}
 use Rattle.points.proofs.SpanLaws.{first-size, last-size, lo_size, hi_size}
-use Rattle.points.proofs.window.refine_span.Goals.{After-larger_of-lo, After-smaller_of-hi}
+use Rattle.points.proofs.window.refine_span.Goals.{After-max-lo, After-min-hi}
 use Rattle.points.proofs.window.refine_span.Goals as goal
 
 -- m, as the definition names it
@@ -29,35 +29,37 @@ module _ (min max stored : ℤ) (ssdec : ℕ) (fmin : SFits w16 min) (fmax : SFi
   more_fits : SFits w16 (m stored ssdec +ℤ pos 2)
   more_fits = record { sfits = omega (arith, last-size min max stored ssdec fmin fmax f) }
 
-lo_is : (c : After-larger_of-lo) → c.larger_of-lo.result ≡ larger (m c.args.stored c.args.ssdec -ℤ pos 1) (quot_z c.args.min (pos 8))
+lo_is : (c : After-max-lo) → c.max-lo.result ≡ larger (m c.args.stored c.args.ssdec -ℤ pos 1) (quot_z c.args.min (pos 8))
+unfolding larger
 lo_is c =
     let a = c.args in
     let f = c.ranges in
     let same = m_is c.eighth-m.result a.stored a.ssdec (search rules) f.stored c.eighth-m.ensures in
     let first = ap (λ (z : ℤ). to_z w16 (of_z w16 (z -ℤ pos 1))) same ∙ to_z-of_z w16 (m a.stored a.ssdec -ℤ pos 1) (less_fits a.min a.max a.stored a.ssdec f.min f.max f.stored) in
     let end = back w16 c.eighth.result (search rules) ∙ c.eighth.ensures ∙ ap (λ (z : ℤ). quot_z z (pos 8)) (to_z-of_z w16 a.min f.min) in
-    c.larger_of-lo.ensures ∙ ap₂ larger first end
+    c.max-lo.ensures.value ∙ ap₂ larger first end
 
-hi_is : (c : After-smaller_of-hi) → c.smaller_of-hi.result ≡ smaller (m c.args.stored c.args.ssdec +ℤ pos 2) (quot_z c.args.max (pos 8))
+hi_is : (c : After-min-hi) → c.min-hi.result ≡ smaller (m c.args.stored c.args.ssdec +ℤ pos 2) (quot_z c.args.max (pos 8))
+unfolding smaller
 hi_is c =
     let a = c.args in
     let f = c.ranges in
     let same = m_is c.eighth-m.result a.stored a.ssdec (search rules) f.stored c.eighth-m.ensures in
     let last = ap (λ (z : ℤ). to_z w16 (of_z w16 (z +ℤ pos 2))) same ∙ to_z-of_z w16 (m a.stored a.ssdec +ℤ pos 2) (more_fits a.min a.max a.stored a.ssdec f.min f.max f.stored) in
     let end = back w16 c.eighth-2.result (search rules) ∙ c.eighth-2.ensures ∙ ap (λ (z : ℤ). quot_z z (pos 8)) (to_z-of_z w16 a.max f.max) in
-    c.smaller_of-hi.ensures ∙ ap₂ smaller last end
+    c.min-hi.ensures.value ∙ ap₂ smaller last end
 
 pub span_count-requires : goal.span_count-requires
 span_count-requires c =
     let a = c.args in
     let f = c.ranges in (
-      subst (λ (z : ℤ). mag z ≤ 8192) (sym (back w16 c.larger_of-lo.result (search rules) ∙ lo_is (goal.at.span_count-requires c).After-larger_of-lo)) (lo_size a.min a.max a.stored a.ssdec f.min f.max f.stored),
-      subst (λ (z : ℤ). mag z ≤ 8192) (sym (back w16 c.smaller_of-hi.result (search rules) ∙ hi_is c)) (hi_size a.min a.max a.stored a.ssdec f.min f.max f.stored),
+      subst (λ (z : ℤ). mag z ≤ 8192) (sym (back w16 c.max-lo.result (search rules) ∙ lo_is (goal.at.span_count-requires c).After-max-lo)) (lo_size a.min a.max a.stored a.ssdec f.min f.max f.stored),
+      subst (λ (z : ℤ). mag z ≤ 8192) (sym (back w16 c.min-hi.result (search rules) ∙ hi_is c)) (hi_size a.min a.max a.stored a.ssdec f.min f.max f.stored),
     )
 
 pub returns : goal.returns
 unfolding refine_span
 returns c =
-    let ends = back w16 c.larger_of-lo.result (search rules) ∙ lo_is (goal.at.returns c).After-larger_of-lo in
-    let count = c.span_count.ensures ∙ ap₂ span_count ends (back w16 c.smaller_of-hi.result (search rules) ∙ hi_is (goal.at.returns c).After-smaller_of-hi) in
+    let ends = back w16 c.max-lo.result (search rules) ∙ lo_is (goal.at.returns c).After-max-lo in
+    let count = c.span_count.ensures ∙ ap₂ span_count ends (back w16 c.min-hi.result (search rules) ∙ hi_is (goal.at.returns c).After-min-hi) in
     λ i. record { lo = ends i; count = count i }
