@@ -1,14 +1,16 @@
 ghost use Rattle.std.specs.Prelude.{◌≡◌, ◌&&◌, ◌++◌, ◌*◌, ◌-◌, ◌%◌, ◌≤◌, eqb, ltb, take, replicate};
+ghost use Rattle.refusal.specs.Kinds.{number_of};
 ghost use Rattle.records.specs.Forms.{plain_forms, cell_bytes, most_cells};
 ghost use Rattle.held.specs.Held.{plain, part_bytes, reader_of, record_bytes, state_of};
 
-use grid::cells::least;
 use records::limits::{CELL_BYTES, HEADER_BYTES, MOST_CELLS};
+use refusal::kinds::Refusal;
 
 // The state between two calls: the refusal so far, what the header said, how many cells were taken in, and the bytes of the
-// record that comes next.
+// record that comes next. The C interface: 40 bytes in which any number may stand, so the number of a refusal, the sides and
+// how many bytes are held are fields.
 #[repr(C)]
-#[derive(Clone, Copy)]
+#[derive(Clone, Copy, Debug, PartialEq, Eq)]
 pub struct Reader {
     pub code: u32,
     pub columns: u32,
@@ -40,79 +42,68 @@ fn first_bytes(part: [u8; 16], count: usize) -> [u8; 16]
     ensures { result ≡ take count part ++ replicate (part_bytes - count) 0 }
 {
     let mut first = [0; 16];
-    let mut i = 0;
-    while i < count {
-        first[i] = part[i];
-        i += 1;
-    }
+    first[..count].copy_from_slice(&part[..count]);
     first
 }
 
-// How many bytes of a record can be held.
-fn most_held(columns: u32) -> usize
-    ensures { result ≡ record_bytes columns plain_forms - 1 }
+// How many bytes the record has that comes next.
+fn record_bytes(columns: u32) -> usize
+    ensures { result ≡ record_bytes columns plain_forms }
 {
     if columns == 0 {
-        HEADER_BYTES - 1
+        HEADER_BYTES
     } else {
-        CELL_BYTES - 1
+        CELL_BYTES
     }
 }
 
-// Whether a cell's record comes next, none of whose bytes has come.
-pub fn at_a_cell(reader: Reader) -> bool
-    ensures { result ≡ (eqb reader.code 0 && (ltb 0 reader.columns && eqb reader.held 0)) }
-{
-    if reader.code != 0 {
-        return false;
+impl Reader {
+    // A refusal keeps what the header said and how many cells were taken in.
+    pub fn refused(self, refusal: Refusal) -> Reader
+        ensures { result ≡ reader_of (plain (number_of refusal) self.columns self.rows self.cells) }
+    {
+        between(refusal.number(), self.columns, self.rows, self.cells)
     }
-    if reader.columns == 0 {
-        return false;
-    }
-    reader.held == 0
-}
 
-// How many bytes complete the record begun; the header's counts as begun before its first.
-pub fn missing(reader: Reader) -> usize
-    requires { reader.held ≤ record_bytes reader.columns plain_forms }
-    ensures { result ≡ (record_bytes reader.columns plain_forms - reader.held) % cell_bytes }
-{
-    (most_held(reader.columns) + 1 - reader.held as usize) % CELL_BYTES
-}
+    // Whether a cell's record comes next, none of whose bytes has come.
+    pub fn at_a_cell(self) -> bool
+        ensures { result ≡ (eqb self.code 0 && (ltb 0 self.columns && eqb self.held 0)) }
+    {
+        self.code == 0 && 0 < self.columns && self.held == 0
+    }
 
-// What a reader stands for: nothing but what is in use counts.
-pub fn settled(reader: Reader) -> Reader
-    ensures { result ≡ reader_of (state_of reader) }
-{
-    let columns = reader.columns;
-    let rows = reader.rows;
-    if reader.code != 0 {
-        return between(reader.code, columns, rows, reader.cells);
+    // How many bytes complete the record begun; the header's counts as begun before its first.
+    pub fn missing(self) -> usize
+        requires { self.held ≤ record_bytes self.columns plain_forms }
+        ensures { result ≡ (record_bytes self.columns plain_forms - self.held) % cell_bytes }
+    {
+        (record_bytes(self.columns) - self.held as usize) % CELL_BYTES
     }
-    if MOST_CELLS < columns {
-        return between(12, columns, rows, reader.cells);
-    }
-    if MOST_CELLS < rows {
-        return between(12, columns, rows, reader.cells);
-    }
-    let held = least(reader.held as usize, most_held(columns));
-    let bytes = reader.part;
-    let part = first_bytes(bytes, held);
-    Reader {
-        code: 0,
-        columns,
-        rows,
-        cells: reader.cells,
-        held: held as u32,
-        part,
-        spare: 0,
-    }
-}
 
-// How many cells the header said.
-pub fn count_of(reader: Reader) -> usize
-    requires { (reader.columns ≤ most_cells) × (reader.rows ≤ most_cells) }
-    ensures { result ≡ reader.columns * reader.rows }
-{
-    (reader.columns as usize) * (reader.rows as usize)
+    // What a reader stands for: nothing but what is in use counts.
+    pub fn settled(self) -> Reader
+        ensures { result ≡ reader_of (state_of self) }
+    {
+        if self.code != 0 {
+            return between(self.code, self.columns, self.rows, self.cells);
+        }
+        if MOST_CELLS < self.columns || MOST_CELLS < self.rows {
+            return self.refused(Refusal::Odd);
+        }
+        let held = (self.held as usize).min(record_bytes(self.columns) - 1);
+        Reader {
+            held: held as u32,
+            part: first_bytes(self.part, held),
+            spare: 0,
+            ..self
+        }
+    }
+
+    // How many cells the header said.
+    pub fn count(self) -> usize
+        requires { (self.columns ≤ most_cells) × (self.rows ≤ most_cells) }
+        ensures { result ≡ self.columns * self.rows }
+    {
+        (self.columns as usize) * (self.rows as usize)
+    }
 }

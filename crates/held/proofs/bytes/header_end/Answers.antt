@@ -9,4 +9,4 @@ pub returns : goal.returns
 unfolding header_end
 returns c =
     let a = c.args in
-    c.between.ensures ∙ ap (λ (n : ℕ). reader_of (plain n a.columns a.rows 0)) c.end_refusal-code.ensures
+    c.between.ensures ∙ ap (λ (n : ℕ). reader_of (plain n a.columns a.rows 0)) (c.code_of.ensures ∙ c.end_refusal-end.ensures)

@@ -14,7 +14,7 @@ use Rattle.held.specs.declared.state.Reader.{Reader}
 use Rattle.held.specs.Held.{reader_of, state_of, checked}
 use Rattle.held.proofs.HeldLaws.{sound_of, back}
 use Rattle.held.proofs.SeenLaws.{Starts, starts, seen_none, seen_all, seen_settled, seen_more, seen_refused}
-use Rattle.held.proofs.check.check_fragment.Goals.{After-settled-held, At-loop-i}
+use Rattle.held.proofs.check.check_fragment.Goals.{After-settled-held, At-loop-byte}
 use Rattle.held.proofs.check.check_fragment.Goals as goal
 
 module _ (c : After-settled-held) where
@@ -24,7 +24,7 @@ module _ (c : After-settled-held) where
   same : state_of c.settled-held.result ≡ state_of given
   same = ap state_of c.settled-held.ensures ∙ back (sound_of given)
 
-module _ (c : At-loop-i) where
+module _ (c : At-loop-byte) where
   abbrev first : Reader
   first = c.settled-held.result
 
@@ -37,30 +37,32 @@ module _ (c : At-loop-i) where
       omega (arith, small)
 
   fragment_bytes : OfBytes bytes
-  fragment_bytes k = omega (arith, c.shared_slice_known-1.given k)
+  fragment_bytes k =
+      let small : val.Fits w8 (get_or bytes k 0) = search rules in
+      omega (arith, small)
 
   start : Starts (state_of first) bytes
   start = starts first part_bytes fragment_bytes
 
   -- what is seen from the reader settled is seen from the one given
-  from_given : {r : Reader} → r ≡ reader_of (taken (most_cells * most_cells) (state_of first) bytes) → r ≡ reader_of (checked (given (goal.at.At-loop-i c).After-settled-held) bytes)
+  from_given : {r : Reader} → r ≡ reader_of (taken (most_cells * most_cells) (state_of first) bytes) → r ≡ reader_of (checked (given (goal.at.At-loop-byte c).After-settled-held) bytes)
   unfolding checked
-  from_given e = e ∙ ap (λ (s : State). reader_of (taken (most_cells * most_cells) s bytes)) (same (goal.at.At-loop-i c).After-settled-held)
+  from_given e = e ∙ ap (λ (s : State). reader_of (taken (most_cells * most_cells) s bytes)) (same (goal.at.At-loop-byte c).After-settled-held)
 
-pub loop-i-init : goal.loop-i-init
-loop-i-init c = seen_none _ _ _ _ (c.settled-held.ensures ∙ ap reader_of (sym (same c)))
+pub loop-byte-init : goal.loop-byte-init
+loop-byte-init c = seen_none _ _ _ _ (c.settled-held.ensures ∙ ap reader_of (sym (same c)))
 
 pub returns-then-held-ne0 : goal.returns-then-held-ne0
 returns-then-held-ne0 c =
-    from_given (goal.at.returns-then-held-ne0 c).At-loop-i (seen_refused c.loop-i.invariant (start (goal.at.returns-then-held-ne0 c).At-loop-i) c.if-held-ne0.true)
+    from_given (goal.at.returns-then-held-ne0 c).At-loop-byte (seen_refused c.loop-byte.invariant (start (goal.at.returns-then-held-ne0 c).At-loop-byte) c.if-held-ne0.true)
 
 pub next_byte-held-requires : goal.next_byte-held-requires
 next_byte-held-requires c =
-    seen_settled c.loop-i.invariant (start (goal.at.next_byte-held-requires c).At-loop-i)
+    seen_settled c.loop-byte.invariant (start (goal.at.next_byte-held-requires c).At-loop-byte)
 
-pub loop-i-preserved : goal.loop-i-preserved
-loop-i-preserved c =
-    seen_more c.loop-i.invariant (start (goal.at.loop-i-preserved c).At-loop-i) c.loop-i-test.true c.next_byte-held.ensures
+pub loop-byte-preserved : goal.loop-byte-preserved
+loop-byte-preserved c =
+    seen_more c.loop-byte.invariant (start (goal.at.loop-byte-preserved c).At-loop-byte) c.loop-byte-test.true c.next_byte-held.ensures
 
 pub returns : goal.returns
-returns c = from_given (goal.at.returns c).At-loop-i (seen_all c.loop-i.invariant c.loop-i-test.false)
+returns c = from_given (goal.at.returns c).At-loop-byte (seen_all c.loop-byte.invariant c.loop-byte-test.false)

@@ -1,4 +1,4 @@
--- `held::bytes::next_byte` meets its contract: a refusal stays, the header comes first, then the cells. Assumes nothing.
+-- `held::state::Reader::next_byte` meets its contract: a refusal stays, the header comes first, then the cells. Assumes nothing.
 use mathlib.Core.Path.{◌≡◌, sym, ap, subst, ◌∙◌}
 use mathlib.Core.List.{[], ◌∷◌}
 use Prim.Native.Nat.{ℕ, ◌<◌}
@@ -9,7 +9,7 @@ use Rattle.gridfile.proofs.KeptLaws.{taken_free}
 use Rattle.held.specs.declared.state.Reader.{Reader}
 use Rattle.held.specs.Held.{reader_of, state_of, Settled}
 use Rattle.held.proofs.OpenLaws.{number-stays, opened}
-use Rattle.held.proofs.bytes.next_byte.Goals as goal
+use Rattle.held.proofs.state.Reader.next_byte.Goals as goal
 
 -- a refused reader
 refused : (r : Reader) (room b : ℕ) → Settled r → (r.code ≡ 0 → ⊥) → r ≡ reader_of (next room (state_of r) b)
@@ -23,12 +23,12 @@ unfolding taken begun
 free r room b settled none read =
     ap reader_of (taken_free 0 room (state_of r) (b ∷ []) (subst (λ (s : State). 0 < s.head.columns) (sym (opened r settled none).state) read))
 
-pub returns-then-reader-ne0 : goal.returns-then-reader-ne0
-returns-then-reader-ne0 c =
+pub returns-then-self-ne0 : goal.returns-then-self-ne0
+returns-then-self-ne0 c =
     let a = c.args in
-    refused a.reader a.room a.byte c.requires c.if-reader-ne0.true
+    refused a.self a.room a.byte c.requires c.if-self-ne0.true
 
 pub returns : goal.returns
 returns c =
     let a = c.args in
-    c.cell_byte.ensures ∙ free a.reader a.room a.byte c.requires c.if-reader-ne0.false (omega (arith, c.if-reader-eq0.false))
+    c.cell_byte.ensures ∙ free a.self a.room a.byte c.requires c.if-self-ne0.false (omega (arith, c.if-self-eq0.false))
