@@ -1,10 +1,13 @@
 -- An answer is the first refusal, and what was found where there is none. Assumes nothing.
-use mathlib.Core.Path.{◌≡◌, refl, ap, ◌∙◌}
+use mathlib.Core.Path.{◌≡◌, refl, sym, ap, ◌∙◌}
 use mathlib.Core.Bool.{Bool, true, false}
 use Prim.Native.Nat.{ℕ, zero, suc}
 use native.Mathlib.Omega.{arith}
 use borrow.Author.Tests.{eq-eqb, ne_eqb}
+use Rattle.refusal.specs.declared.kinds.Refusal.{Refusal}
+use Rattle.refusal.specs.Kinds.{number_of}
 use Rattle.refusal.specs.Refusals.{refuse, ◌then◌}
+use Rattle.refusal.proofs.KindsLaws.{number-some}
 use Rattle.predict.specs.declared.predictors.MotionEstimationSubsets.{MotionEstimationSubsets}
 use Rattle.single.specs.declared.found.Found.{Found}
 use Rattle.single.specs.Found.{refused, answer}
@@ -22,6 +25,14 @@ refuses_later n later f e = ap (λ (m : ℕ). answer (m then later) f) e
 pub refuses : (n : ℕ) (f : Found) → (n ≡ 0 → ⊥) → answer n f ≡ refused n
 unfolding answer
 refuses n f h = rw (ne_eqb n 0 h)
+
+-- a result as C gets it, by the number that its refusal has
+pub refused-is : (r : Refusal) (n : ℕ) (f : Found) → number_of r ≡ n → refused (number_of r) ≡ answer n f
+refused-is r n f e = let some = number-some r in ap refused e ∙ sym (refuses n f (λ z. omega arith))
+
+pub done-is : (n : ℕ) (f : Found) → 0 ≡ n → f ≡ answer n f
+unfolding answer
+done-is n f e = rw (← e)
 
 -- the same of a last test
 pub refuses_at : (n : ℕ) (t : Bool) (f : Found) → t ≡ false → answer (refuse (suc n) t) f ≡ refused (suc n)

@@ -1,7 +1,10 @@
 -- What an entry point gives back.
-use Rattle.std.specs.Prelude.{ℕ, cond, eqb, pos}
+use Rattle.std.specs.Prelude.{ℕ, cond, eqb, pos, Result, Ok, Err}
 use Rattle.motion.specs.declared.vector.MotionVector.{MotionVector}
 use Rattle.sad.specs.declared.rd.MVCandidateRD.{MVCandidateRD}
+use Rattle.search.specs.declared.result.MotionSearchResult.{MotionSearchResult}
+use Rattle.refusal.specs.declared.kinds.Refusal.{Refusal}
+use Rattle.refusal.specs.Kinds.{number_of}
 use Rattle.single.specs.declared.found.Found.{Found}
 
 -- a refusal carries no vector: a record that must have fields holds 0 in each
@@ -15,3 +18,8 @@ found_of v rd = record { code = 0; row = v.row; col = v.col; sad = rd.sad; cost 
 -- the refusal where there is one, else what was found
 unfoldable pub answer : ℕ → Found → Found
 answer number found = cond (eqb number 0) found (refused number)
+
+-- a result that may be a refusal, as C gets it
+unfoldable pub found_from : Result MotionSearchResult Refusal → Found
+found_from (Ok best) = found_of best.mv best.rd
+found_from (Err refusal) = refused (number_of refusal)

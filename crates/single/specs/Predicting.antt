@@ -1,8 +1,10 @@
 -- The entry point that opens the predictors.
-use Rattle.std.specs.Prelude.{ℕ, cond, [], eqb}
+use Rattle.std.specs.Prelude.{ℕ, cond, [], eqb, Result, Ok, Err}
 use Rattle.motion.specs.Vector.{zero_v}
 use Rattle.grid.specs.Grid.{Grid, room}
 use Rattle.grid.specs.Previous.{previous}
+use Rattle.refusal.specs.declared.kinds.Refusal.{Refusal}
+use Rattle.refusal.specs.Kinds.{number_of}
 use Rattle.refusal.specs.Refusals.{refuse, ◌then◌, block_refusal, grids_hold}
 use Rattle.sampled.specs.Slots.{slotted}
 use Rattle.predict.specs.declared.predictors.MotionEstimationSubsets.{MotionEstimationSubsets}
@@ -43,6 +45,11 @@ predictors_with number p =
       c = p.subset_c;
     })
     (refused_predictors number)
+
+-- predictors that may be a refusal, as C gets them
+unfoldable pub predictors_from : Result MotionEstimationSubsets Refusal → Predictors
+predictors_from (Ok p) = predictors_with 0 p
+predictors_from (Err refusal) = refused_predictors (number_of refusal)
 
 unfoldable pub predictors_answer : (width height level bx by present : ℕ) (prev g : Grid) → Predictors
 predictors_answer width height level bx by present prev g =

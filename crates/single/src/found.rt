@@ -1,12 +1,12 @@
 ghost use Rattle.std.specs.Prelude.{◌≡◌};
-ghost use Rattle.single.specs.Found.{refused, found_of};
+ghost use Rattle.single.specs.Found.{found_from};
 
-use motion::vector::MotionVector;
-use sad::rd::MVCandidateRD;
+use refusal::kinds::Refusal;
+use search::result::MotionSearchResult;
 
-// What a single search, a refinement or a candidate gives: 0 or a refusal, and a vector with its SAD and cost.
+// What a single search, a refinement or a candidate gives: 0 or a refusal, and a vector with its SAD and cost. The C interface has it so.
 #[repr(C)]
-#[derive(Clone, Copy)]
+#[derive(Clone, Copy, Debug, PartialEq, Eq)]
 pub struct Found {
     pub code: u32,
     pub row: i16,
@@ -15,28 +15,25 @@ pub struct Found {
     pub cost: u64,
 }
 
-impl Found {
-    pub fn refuse(code: u32) -> Found
-        ensures { result ≡ refused code }
-    {
-        Found {
-            code,
-            row: 0,
-            col: 0,
-            sad: 0,
-            cost: 0,
-        }
-    }
+impl From<Result<MotionSearchResult, Refusal>> for Found {
+    ghost from_gives = { λ answer found. found ≡ found_from answer };
 
-    pub fn done(mv: MotionVector, rd: MVCandidateRD) -> Found
-        ensures { result ≡ found_of mv rd }
-    {
-        Found {
-            code: 0,
-            row: mv.row,
-            col: mv.col,
-            sad: rd.sad,
-            cost: rd.cost,
+    fn from(answer: Result<MotionSearchResult, Refusal>) -> Found {
+        match answer {
+            Ok(best) => Found {
+                code: 0,
+                row: best.mv.row,
+                col: best.mv.col,
+                sad: best.rd.sad,
+                cost: best.rd.cost,
+            },
+            Err(refusal) => Found {
+                code: refusal.number(),
+                row: 0,
+                col: 0,
+                sad: 0,
+                cost: 0,
+            },
         }
     }
 }

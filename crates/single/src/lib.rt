@@ -4,5 +4,6 @@
 pub mod call;
 pub mod calls;
 pub mod found;
+pub mod leaves;
 pub mod predicting;
 pub mod range;
