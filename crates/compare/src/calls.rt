@@ -7,7 +7,8 @@ use grid::lent::GridRef;
 use gridfile::read::Shape;
 use refusal::kinds::Refusal;
 
-// A number of document 02, how many places differ from a cell on, and the first of them.
+// A number of document 02, how many places differ from a cell on, and the first of them: the C interface, so that 0 stands for
+// no refusal.
 #[repr(C)]
 #[derive(Clone, Copy)]
 pub struct Comparison {
@@ -16,7 +17,7 @@ pub struct Comparison {
     pub first: u64,
 }
 
-// A number of document 02, and the first place that differs from a cell on.
+// The same number, and the first place that differs from a cell on.
 #[repr(C)]
 #[derive(Clone, Copy)]
 pub struct Place {

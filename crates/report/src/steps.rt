@@ -12,7 +12,8 @@ use records::limits::CELL_BYTES;
 use records::parts::get_cell;
 use text::writer::Writer;
 
-// What goes from a step to the next: cells across, the place of the next cell, and how many differed.
+// What goes from a step to the next: cells across, the place of the next cell, and how many differed. There is no Listing in it:
+// every clause and definition would read two of its numbers through one more name.
 #[derive(Clone, Copy)]
 pub struct Report {
     pub across: usize,
@@ -46,7 +47,8 @@ impl Report {
         self.next += 1;
     }
 
-    // A step: so many cell records of each file, of which the lines of those that differ are put.
+    // A step: so many cell records of each file, of which the lines of those that differ are put. The count stands beside the
+    // bytes, as in a listing's step.
     pub fn step(&mut self, first: &[u8], second: &[u8], count: usize, w: &mut Writer<'_>)
         requires open_and_room { Open self.old count × (w.old.at + line_room * count ≤ length w.old.out.now) }
         requires count_in_bounds { (cell_bytes * count ≤ length first.now) × (cell_bytes * count ≤ length second.now) }
