@@ -1,2 +1,3 @@
 -- Laws that several proofs and other crates cite.
 pub mod RunLaws
+pub mod PreviousLaws

@@ -1,91 +1,85 @@
-ghost use Rattle.std.specs.Prelude.{◌≡◌, ℕ, ◌<◌, length, get_or};
+ghost use Rattle.std.specs.Prelude.{◌≡◌, true, ℕ, ◌<◌, length, get_or};
 ghost use Rattle.motion.specs.Frame.{Side};
 ghost use Rattle.motion.specs.Superblock.{superblocks};
-ghost use Rattle.grid.specs.Grid.{grid_of, Held};
+ghost use Rattle.grid.specs.Grid.{Held};
 ghost use Rattle.grid.specs.Previous.{HeldIf};
-ghost use Rattle.estimate.specs.Inputs.{inputs_in, previous_in, planes_of};
-ghost use Rattle.estimate.specs.Asked.{Ready, PlaneHeld};
-ghost use Rattle.frame.specs.Run.{level_run, frame_run};
+ghost use Rattle.grid.specs.Lent.{lent_mut, previous_lent, SameBuffers};
+ghost use Rattle.refusal.specs.Refusals.{level_ok};
+ghost use Rattle.estimate.specs.Inputs.{plane_at};
+ghost use Rattle.estimate.specs.Lent.{inputs_lent, planes_lent};
+ghost use Rattle.estimate.specs.Asked.{PlaneHeld};
+ghost use Rattle.frame.specs.Run.{level_run, inputs_at, frame_run};
 
-use estimate::step::{Frame, Step};
+use estimate::inputs::LevelInputs;
+use estimate::planes::FramePlanes;
+use grid::lent::{GridMut, GridRef};
 use superblock::step::superblock_step;
 
-// Every superblock of a list at one level, in list order.
+// Every superblock of a list at one level, in list order; one with an empty window leaves the grid as it stood.
 fn level_run(
-    frame: Frame,
-    level: usize,
-    cur: &[u8],
-    reference: &[u8],
-    prev_rows: &[i16],
-    prev_cols: &[i16],
-    prev_sads: &[u32],
+    inputs: &LevelInputs<'_>,
+    prev: Option<GridRef<'_>>,
     list: &[u16],
-    rows: &mut [i16],
-    cols: &mut [i16],
-    sads: &mut [u32],
+    grid: &mut GridMut<'_>,
 )
-    requires ready { Ready (inputs_in frame level cur.now reference.now) }
-    requires held_if { HeldIf frame.width frame.height (previous_in frame (grid_of prev_rows.now prev_cols.now prev_sads.now)) }
-    requires held { Held frame.width frame.height (grid_of rows.old cols.old sads.old) }
-    requires by_index { (k : ℕ) → k < length list.now → get_or list.now k 0 < superblocks frame.width frame.height }
-    ensures { grid_of rows.new cols.new sads.new ≡ level_run (inputs_in frame level cur.now reference.now) (previous_in frame (grid_of prev_rows.now prev_cols.now prev_sads.now)) list.now (grid_of rows.old cols.old sads.old) }
+    requires held_if { HeldIf inputs.now.width inputs.now.height (previous_lent prev) }
+    requires held { Held inputs.now.width inputs.now.height (lent_mut grid.old) }
+    requires in_frame { (k : ℕ) → k < length list.now → get_or list.now k 0 < superblocks inputs.now.width inputs.now.height }
+    ensures run { lent_mut grid.new ≡ level_run (inputs_lent inputs.now) (previous_lent prev.entry) list.now (lent_mut grid.old) }
+    ensures same { SameBuffers grid.old grid.new }
 {
-    let mut k = 0;
-    while k < list.len() {
-        let superblock = list[k] as usize;
-        let s = Step {
-            frame,
-            level,
-            superblock,
-        };
-        superblock_step(
-            s, cur, reference, prev_rows, prev_cols, prev_sads, rows, cols, sads,
-        );
-        k += 1;
+    for &superblock in list {
+        let _ = superblock_step(inputs, superblock as usize, prev, grid);
+    }
+}
+
+// What a level of a run works with.
+fn inputs_at<'a>(
+    width: usize,
+    height: usize,
+    weight: u32,
+    cur: &FramePlanes<'a>,
+    reference: &FramePlanes<'a>,
+    level: usize,
+) -> LevelInputs<'a>
+    requires side { Side width × Side height × (level_ok level 0 ≡ true) }
+    requires held { PlaneHeld width height level (plane_at (planes_lent cur.now) level) × PlaneHeld width height level (plane_at (planes_lent reference.now) level) }
+    ensures { inputs_lent result ≡ inputs_at width height (planes_lent cur.now) (planes_lent reference.now) weight level }
+{
+    LevelInputs {
+        width,
+        height,
+        level,
+        cur: cur.at(level),
+        reference: reference.at(level),
+        weight,
     }
 }
 
 // Levels 4, 3 and 2, each in list order.
 pub fn frame_run(
-    frame: Frame,
-    cur: &[u8],
-    cur_half: &[u8],
-    cur_quarter: &[u8],
-    reference: &[u8],
-    ref_half: &[u8],
-    ref_quarter: &[u8],
-    prev_rows: &[i16],
-    prev_cols: &[i16],
-    prev_sads: &[u32],
+    width: usize,
+    height: usize,
+    weight: u32,
+    cur: &FramePlanes<'_>,
+    reference: &FramePlanes<'_>,
+    prev: Option<GridRef<'_>>,
     list: &[u16],
-    rows: &mut [i16],
-    cols: &mut [i16],
-    sads: &mut [u32],
+    grid: &mut GridMut<'_>,
 )
-    requires side { Side frame.width × Side frame.height × PlaneHeld frame.width frame.height 2 cur.now × PlaneHeld frame.width frame.height 3 cur_half.now × PlaneHeld frame.width frame.height 4 cur_quarter.now }
-    requires plane_held { PlaneHeld frame.width frame.height 2 reference.now × PlaneHeld frame.width frame.height 3 ref_half.now × PlaneHeld frame.width frame.height 4 ref_quarter.now }
-    requires held_if { HeldIf frame.width frame.height (previous_in frame (grid_of prev_rows.now prev_cols.now prev_sads.now)) }
-    requires held { Held frame.width frame.height (grid_of rows.old cols.old sads.old) }
-    requires by_index { (k : ℕ) → k < length list.now → get_or list.now k 0 < superblocks frame.width frame.height }
-    ensures { grid_of rows.new cols.new sads.new ≡ frame_run frame.width frame.height (planes_of cur.now cur_half.now cur_quarter.now) (planes_of reference.now ref_half.now ref_quarter.now) frame.weight (previous_in frame (grid_of prev_rows.now prev_cols.now prev_sads.now)) list.now (grid_of rows.old cols.old sads.old) }
+    requires side { Side width × Side height }
+    requires cur_held { PlaneHeld width height 2 cur.now.full.now × PlaneHeld width height 3 cur.now.half.now × PlaneHeld width height 4 cur.now.quarter.now }
+    requires reference_held { PlaneHeld width height 2 reference.now.full.now × PlaneHeld width height 3 reference.now.half.now × PlaneHeld width height 4 reference.now.quarter.now }
+    requires held_if { HeldIf width height (previous_lent prev) }
+    requires held { Held width height (lent_mut grid.old) }
+    requires in_frame { (k : ℕ) → k < length list.now → get_or list.now k 0 < superblocks width height }
+    ensures run { lent_mut grid.new ≡ frame_run width height (planes_lent cur.now) (planes_lent reference.now) weight (previous_lent prev.entry) list.now (lent_mut grid.old) }
+    ensures same { SameBuffers grid.old grid.new }
 {
-    level_run(
-        frame,
-        4,
-        cur_quarter,
-        ref_quarter,
-        prev_rows,
-        prev_cols,
-        prev_sads,
-        list,
-        rows,
-        cols,
-        sads,
-    );
-    level_run(
-        frame, 3, cur_half, ref_half, prev_rows, prev_cols, prev_sads, list, rows, cols, sads,
-    );
-    level_run(
-        frame, 2, cur, reference, prev_rows, prev_cols, prev_sads, list, rows, cols, sads,
-    );
+    let quarter = inputs_at(width, height, weight, cur, reference, 4);
+    level_run(&quarter, prev, list, grid);
+    let half = inputs_at(width, height, weight, cur, reference, 3);
+    level_run(&half, prev, list, grid);
+    let full = inputs_at(width, height, weight, cur, reference, 2);
+    level_run(&full, prev, list, grid);
 }

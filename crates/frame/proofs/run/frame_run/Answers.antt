@@ -1,39 +1,51 @@
 -- `frame::run::frame_run` meets its contract.
-use mathlib.Core.Path.{ap, ◌∙◌}
-use Rattle.grid.specs.Grid.{grid_of}
-use Rattle.grid.specs.Previous.{Previous}
-use Rattle.estimate.specs.Inputs.{Inputs, inputs_in, previous_in, plane_at}
-use Rattle.estimate.specs.Asked.{four, three, two}
-use Rattle.frame.specs.Run.{level_run, inputs_at, frame_run}
-use Rattle.frame.proofs.run.frame_run.Goals.{Start}
+use Rattle.std.proofs.Common.{refl, ap, ap₂, ◌∙◌}
+use Rattle.grid.specs.Grid.{Grid}
+use Rattle.grid.specs.Lent.{lent_mut, previous_lent}
+use Rattle.refusal.specs.Refusals.{level_ok}
+use Rattle.estimate.specs.Inputs.{Inputs, plane_at}
+use Rattle.estimate.specs.Lent.{inputs_lent}
+use Rattle.superblock.proofs.StepLaws.{same-more}
+use Rattle.frame.specs.Run.{level_run, frame_run}
+use Rattle.frame.proofs.RunLaws.{held-same, asked-there}
 use Rattle.frame.proofs.run.frame_run.Goals as goal
 
-abbrev inputs3 : Start → Inputs
-inputs3 c = inputs_in c.args.frame 3 c.args.cur_half.now c.args.ref_half.now
+pub inputs_at-quarter-requires : goal.inputs_at-quarter-requires
+unfolding level_ok plane_at
+inputs_at-quarter-requires c =
+    record { side = (c.requires.side.0, c.requires.side.1, refl); held = (c.requires.cur_held.2, c.requires.reference_held.2) }
 
-abbrev inputs2 : Start → Inputs
-inputs2 c = inputs_in c.args.frame 2 c.args.cur.now c.args.reference.now
+pub inputs_at-half-requires : goal.inputs_at-half-requires
+unfolding level_ok plane_at
+inputs_at-half-requires c =
+    record { side = (c.requires.side.0, c.requires.side.1, refl); held = (c.requires.cur_held.1, c.requires.reference_held.1) }
 
-abbrev previous : Start → Previous
-previous c = previous_in c.args.frame (grid_of c.args.prev_rows.now c.args.prev_cols.now c.args.prev_sads.now)
+pub inputs_at-full-requires : goal.inputs_at-full-requires
+unfolding level_ok plane_at
+inputs_at-full-requires c =
+    record { side = (c.requires.side.0, c.requires.side.1, refl); held = (c.requires.cur_held.0, c.requires.reference_held.0) }
 
-pub level_run-requires-clause-ready : goal.level_run-requires-clause-ready
-level_run-requires-clause-ready c =
-    let pre = c.requires in
-    record { wide = c.requires.side.0; high = c.requires.side.1; leveled = four; cur = c.requires.side.4; ref = c.requires.plane_held.2 }
+pub level_run-requires : goal.level_run-requires
+level_run-requires c =
+    let asked = asked-there (inputs_lent c.inputs_at-quarter.result) _ _ _ _ c.args.list.now c.inputs_at-quarter.ensures c.requires.held_if c.requires.held c.requires.in_frame in
+    record { held_if = asked.0; held = asked.1; in_frame = asked.2 }
 
-pub level_run-requires-2-clause-ready : goal.level_run-requires-2-clause-ready
-level_run-requires-2-clause-ready c =
-    let pre = c.requires in record { wide = c.requires.side.0; high = c.requires.side.1; leveled = three; cur = c.requires.side.3; ref = c.requires.plane_held.1 }
+pub level_run-requires-2 : goal.level_run-requires-2
+level_run-requires-2 c =
+    let held = held-same c.level_run.ensures.same c.requires.held in
+    let asked = asked-there (inputs_lent c.inputs_at-half.result) _ _ _ _ c.args.list.now c.inputs_at-half.ensures c.requires.held_if held c.requires.in_frame in
+    record { held_if = asked.0; held = asked.1; in_frame = asked.2 }
 
-pub level_run-requires-3-clause-ready : goal.level_run-requires-3-clause-ready
-level_run-requires-3-clause-ready c =
-    let pre = c.requires in
-    let same = c.level_run-2.ensures ∙ ap (level_run (inputs3 (goal.at.level_run-requires-3-clause-ready c).Start) (previous (goal.at.level_run-requires-3-clause-ready c).Start) c.args.list.now) c.level_run.ensures in record { wide = c.requires.side.0; high = c.requires.side.1; leveled = two; cur = c.requires.side.2; ref = c.requires.plane_held.0 }
+pub level_run-requires-3 : goal.level_run-requires-3
+level_run-requires-3 c =
+    let held = held-same (same-more c.level_run.ensures.same c.level_run-2.ensures.same) c.requires.held in
+    let asked = asked-there (inputs_lent c.inputs_at-full.result) _ _ _ _ c.args.list.now c.inputs_at-full.ensures c.requires.held_if held c.requires.in_frame in
+    record { held_if = asked.0; held = asked.1; in_frame = asked.2 }
 
-pub returns : goal.returns
-unfolding frame_run inputs_at plane_at
-returns c =
-    let list = c.args.list.now in
-    c.level_run-3.ensures
-    ∙ ap (level_run (inputs2 (goal.at.returns c).Start) (previous (goal.at.returns c).Start) list) (c.level_run-2.ensures ∙ ap (level_run (inputs3 (goal.at.returns c).Start) (previous (goal.at.returns c).Start) list) c.level_run.ensures)
+pub returns-clause-run : goal.returns-clause-run
+unfolding frame_run
+returns-clause-run c =
+    let run : Inputs → Grid → Grid = λ i g. level_run i (previous_lent c.args.prev) c.args.list.now g in
+    let quarter = c.level_run.ensures.run ∙ ap (λ (i : Inputs). run i (lent_mut c.args.grid.now)) c.inputs_at-quarter.ensures in
+    let half = c.level_run-2.ensures.run ∙ ap₂ run c.inputs_at-half.ensures quarter in
+    c.level_run-3.ensures.run ∙ ap₂ run c.inputs_at-full.ensures half

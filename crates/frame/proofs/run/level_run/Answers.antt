@@ -1,37 +1,44 @@
--- `frame::run::level_run` meets its contract: before turn k the grid is that after the list's first k superblocks.
-use mathlib.Core.Path.{sym, ap, ◌∙◌}
-use native.Mathlib.Omega.{arith}
-use lib.ListN.{get_or}
-use Rattle.grid.specs.Grid.{Grid, grid_of}
-use Rattle.grid.specs.Previous.{Previous}
-use Rattle.estimate.specs.Inputs.{Inputs, inputs_in, previous_in}
+-- `frame::run::level_run` meets its contract.
+use Rattle.std.proofs.Common.{sym, ap, ◌∙◌, get_or}
+use Rattle.std.proofs.lemmas.List.{take_all}
+use mathlib.Core.List.{List}
+use Prim.Native.Nat.{ℕ}
+use Rattle.grid.specs.Lent.{lent_mut, previous_lent}
+use Rattle.estimate.specs.Lent.{inputs_lent}
 use Rattle.superblock.specs.Step.{step}
-use Rattle.frame.proofs.RunLaws.{run_none, run_more}
-use Rattle.frame.proofs.run.level_run.Goals.{Start}
+use Rattle.superblock.proofs.StepLaws.{same-none, same-more}
+use Rattle.frame.specs.Run.{level_run}
+use Rattle.frame.proofs.RunLaws.{run_none, run_more, held-same}
 use Rattle.frame.proofs.run.level_run.Goals as goal
 
--- the inputs, the previous grid and the grid at entry
-abbrev inputs : Start → Inputs
-inputs c =
-    let a = c.args in
-    inputs_in a.frame a.level a.cur.now a.reference.now
+pub loop-superblock-init : goal.loop-superblock-init
+loop-superblock-init c =
+    record {
+      run = sym (run_none (inputs_lent c.args.inputs.now) (previous_lent c.args.prev) (lent_mut c.args.grid.now));
+      same = same-none c.args.grid.now;
+    }
 
-abbrev previous : Start → Previous
-previous c =
-    let a = c.args in
-    previous_in a.frame (grid_of a.prev_rows.now a.prev_cols.now a.prev_sads.now)
+pub superblock_step-requires : goal.superblock_step-requires
+superblock_step-requires c =
+    record {
+      inside = c.requires.in_frame c.loop-superblock.superblock-index c.loop-superblock-test.true;
+      held_if = c.requires.held_if;
+      held = held-same c.loop-superblock.invariant.same c.requires.held;
+    }
 
-abbrev first : Start → Grid
-first c = grid_of c.args.rows.now c.args.cols.now c.args.sads.now
+pub loop-superblock-preserved : goal.loop-superblock-preserved
+loop-superblock-preserved c =
+    let i = inputs_lent c.args.inputs.now in
+    let p = previous_lent c.args.prev in
+    let list = c.args.list.now in
+    let k = c.loop-superblock.superblock-index in
+    record {
+      run = c.superblock_step.ensures.stepped ∙ ap (step i p (get_or list k 0)) c.loop-superblock.invariant.run ∙ sym (run_more i p list k (lent_mut c.args.grid.now) c.loop-superblock-test.true);
+      same = same-more c.loop-superblock.invariant.same c.superblock_step.ensures.same;
+    }
 
-pub loop-k-init : goal.loop-k-init
-loop-k-init c =
-    (omega arith, sym (run_none (inputs (goal.at.loop-k-init c).Start) (previous (goal.at.loop-k-init c).Start) (first (goal.at.loop-k-init c).Start)))
-
-pub loop-k-preserved : goal.loop-k-preserved
-loop-k-preserved c =
-    let list = c.args.list.now in (
-      omega (arith, c.loop-k-test.true),
-      c.superblock_step.ensures.sads_value ∙ ap (step (inputs (goal.at.loop-k-preserved c).Start) (previous (goal.at.loop-k-preserved c).Start) (get_or list c.loop-k.k 0)) c.loop-k.invariant.1
-          ∙ sym (run_more (inputs (goal.at.loop-k-preserved c).Start) (previous (goal.at.loop-k-preserved c).Start) list c.loop-k.k (first (goal.at.loop-k-preserved c).Start) c.loop-k-test.true),
-    )
+pub returns-clause-run : goal.returns-clause-run
+returns-clause-run c =
+    let list = c.args.list.now in
+    let all = take_all c.loop-superblock.superblock-index list c.loop-superblock-test.false in
+    c.loop-superblock.invariant.run ∙ ap (λ (ns : List ℕ). level_run (inputs_lent c.args.inputs.now) (previous_lent c.args.prev) ns (lent_mut c.args.grid.now)) all
