@@ -1,11 +1,12 @@
 -- Laws of sums of absolute differences: one term more, and the bounds. Assumes nothing.
 use mathlib.Core.Path.{◌≡◌, refl, sym, ap, ap₂, ◌∙◌}
-use mathlib.Core.List.{List}
+use mathlib.Core.List.{List, ◌∷◌}
 use Prim.Native.Nat.{ℕ, zero, suc, ◌+◌, ◌-◌, ◌*◌, ◌≤◌, ◌<◌, zero-le}
 use native.Mathlib.Nat.{add-zero, add-suc, add_assoc, add-mul, le-suc, le_refl, mul-suc, add-le-add, le_trans, le_of_eq}
 use native.Mathlib.Numerals.{add-one}
 use native.Mathlib.Omega.{arith}
-use lib.ListN.{get_or}
+use lib.ListN.{get_or, length, take, drop}
+use Rattle.std.proofs.lemmas.List.{get_or-take, get_or-drop, length-drop, length-take-le}
 use Rattle.sad.specs.Sad.{sum_to, abs_diff, sad_row, sad_block}
 use Rattle.sad.specs.Asked.{Inside}
 
@@ -89,6 +90,30 @@ row-then cur src ref dst v w =
     sum_then v w (λ x. abs_diff (get_or cur (src + x) 0) (get_or ref (dst + x) 0))
     ∙ ap (λ (n : ℕ). sad_row cur src ref dst v + n)
     (sum_same w (λ x. abs_diff (get_or cur (src + (v + x)) 0) (get_or ref (dst + (v + x)) 0)) (λ x. abs_diff (get_or cur (src + v + x) 0) (get_or ref (dst + v + x) 0)) (λ x below. ap₂ (λ (s d : ℕ). abs_diff (get_or cur s 0) (get_or ref d 0)) (sym (add_assoc src v x)) (sym (add_assoc dst v x))))
+
+-- the first column, then the others
+pub row-cons : (a b : ℕ) (xs ys : List ℕ) (n : ℕ) → sad_row (a ∷ xs) 0 (b ∷ ys) 0 (suc n) ≡ abs_diff a b + sad_row xs 0 ys 0 n
+unfolding sad_row sum_to
+row-cons a b xs ys n =
+    let one : 1 + n ≡ suc n = omega arith in
+    let next : (i : ℕ) → 0 + (1 + i) ≡ suc (0 + i) = λ i. omega arith in
+    let f : ℕ → ℕ = λ x. abs_diff (get_or (a ∷ xs) (0 + x) 0) (get_or (b ∷ ys) (0 + x) 0) in
+    let rest = sum_same n (λ i. f (1 + i)) (λ i. abs_diff (get_or xs (0 + i) 0) (get_or ys (0 + i) 0)) (λ i p. ap (λ (k : ℕ). abs_diff (get_or (a ∷ xs) k 0) (get_or (b ∷ ys) k 0)) (next i)) in
+    omega (arith, ap (λ (k : ℕ). sum_to k f) one, sum_then 1 n f, rest)
+
+-- n samples from s and from d on, cut out of their lists
+part-sample : (xs : List ℕ) (s n i : ℕ) → i < n → get_or (take n (drop s xs)) (0 + i) 0 ≡ get_or xs (s + i) 0
+part-sample xs s n i h =
+    let at : 0 + i ≡ i = omega arith in
+    ap (λ (k : ℕ). get_or (take n (drop s xs)) k 0) at ∙ get_or-take n (drop s xs) i 0 h ∙ get_or-drop s xs i 0
+
+pub row-cut : (cur : List ℕ) (s : ℕ) (ref : List ℕ) (d n m k : ℕ) → s + n ≤ length cur → m ≡ n → k ≡ n → sad_row (take m (drop s cur)) 0 (take k (drop d ref)) 0 (length (take m (drop s cur))) ≡ sad_row cur s ref d n
+unfolding sad_row
+row-cut cur s ref d n m k h em ek =
+    let few : n ≤ length (drop s cur) = omega (arith, length-drop {A = ℕ}) in
+    rw (em, ek, length-take-le n (drop s cur) few)
+    (sum_same n (λ x. abs_diff (get_or (take n (drop s cur)) (0 + x) 0) (get_or (take n (drop d ref)) (0 + x) 0)) (λ x. abs_diff (get_or cur (s + x) 0) (get_or ref (d + x) 0))
+    (λ x p. ap₂ abs_diff (part-sample cur s n x p) (part-sample ref d n x p)))
 
 -- some samples of a row, and the rows before it, are no more than the block
 row-part : (cur : List ℕ) (src : ℕ) (ref : List ℕ) (dst x w : ℕ) → x ≤ w → sad_row cur src ref dst x ≤ sad_row cur src ref dst w

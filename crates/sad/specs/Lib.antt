@@ -5,3 +5,4 @@ pub mod Cost
 pub mod Planes
 -- what inner functions ask, and no reader need believe
 pub mod Asked
+pub mod Pair

@@ -1,33 +1,42 @@
--- `sad::sad::sad_row` meets its contract: after x columns the sum is that of x columns, at most 65,535 for each.
-use Prim.Native.Nat.{◌≤◌, ◌+◌}
+-- `sad::sad::sad_row` meets its contract: what is left of the two rows has what is left of the sum.
+use mathlib.Core.Path.{◌≡◌, ap, ap₂, ◌∙◌}
+use mathlib.Core.List.{List}
+use mathlib.Core.Logic.{inl, inr}
+use Prim.Native.Nat.{ℕ}
+use lib.ListN.{length}
 use native.Mathlib.Omega.{arith}
-use lib.ListN.{get_or}
-use Rattle.motion.specs.Limits.{largest_sample}
-use Rattle.sad.proofs.Sums.{row-none, row_more, diff_le}
-use Rattle.sad.proofs.sad.sad_row.Goals.{After-abs_diff-sum}
+use Rattle.sad.specs.Sad.{sad_row}
+use Rattle.sad.proofs.Sums.{row-none, row-cons}
 use Rattle.sad.proofs.sad.sad_row.Goals as goal
 
--- two samples differ by at most 65,535
-byte : (c : After-abs_diff-sum) → c.abs_diff-sum.result ≤ largest_sample
-byte c =
-    let a = c.args in
-    let x = c.loop-x.x in
-    let org = get_or a.cur.now (a.src + x) 0 in
-    let ref = get_or a.reference.now (a.dst + x) 0 in
-    let low : org ≤ largest_sample = omega (arith, c.shared_slice_known-1.given (a.src + x)) in
-    let high : ref ≤ largest_sample = omega (arith, c.shared_slice_known-2-1.given (a.dst + x)) in
-    omega (arith, c.abs_diff-sum.ensures, diff_le org ref largest_sample low high)
+whole : List ℕ → List ℕ → ℕ
+whole xs ys = sad_row xs 0 ys 0 (length xs)
 
-pub loop-x-init : goal.loop-x-init
-loop-x-init c =
-    let a = c.args in
-    (omega arith, omega arith, omega (arith, row-none a.cur.now a.src a.reference.now a.dst))
+pub loop-a-init : goal.loop-a-init
+unfolding whole
+loop-a-init c =
+    let items = c.into_iter-a-iterator.ensures.into_iter_gives in
+    let first : c.into_iter-a-iterator.result.a.rest.now ≡ c.args.cur.now = ap (λ (z : _). z.a.rest.now) items ∙ ap (λ (z : _). z.rest.now) c.zip-a-items.ensures.first ∙ c.iter.ensures.rest in
+    let second : c.into_iter-a-iterator.result.b.rest.now ≡ c.args.reference.now = ap (λ (z : _). z.b.rest.now) items ∙ c.zip-a-items.ensures.second.0 in
+    record {
+      few = omega (arith, ap (length {A = ℕ}) first);
+      level = omega (arith, ap (length {A = ℕ}) first, ap (length {A = ℕ}) second);
+      rest = omega (arith, ap₂ whole first second);
+    }
 
 pub overflow_add-sum : goal.overflow_add-sum
-overflow_add-sum c = omega (arith, byte c)
+overflow_add-sum c = omega (arith, ap (length {A = ℕ}) c.in-Some.ensures.steps.0)
 
-pub loop-x-preserved : goal.loop-x-preserved
-loop-x-preserved c =
-    let a = c.args in
-    let more = row_more a.cur.now a.src a.reference.now a.dst c.loop-x.x in
-    (omega arith, omega (arith, byte c), omega (arith, more, c.loop-x.invariant.2, c.abs_diff-sum.ensures))
+pub loop-a-preserved : goal.loop-a-preserved
+unfolding whole
+loop-a-preserved c =
+    let first = ap (length {A = ℕ}) c.in-Some.ensures.steps.0 in
+    let second = ap (length {A = ℕ}) c.in-Some.ensures.steps.1 in
+    let more = ap₂ whole c.in-Some.ensures.steps.0 c.in-Some.ensures.steps.1 ∙ row-cons c.in-Some.a.now c.in-Some.b.now c.next.new.self.a.rest.now c.next.new.self.b.rest.now (length c.next.new.self.a.rest.now) in
+    record { few = omega (arith, first); level = omega (arith, first, second); rest = omega (arith, c.loop-a.invariant.rest, more, c.abs_diff-sum.ensures.difference) }
+
+pub returns : goal.returns
+returns c =
+    let at = c.loop-a.a-iterator in
+    let none : length at.a.rest.now ≡ 0 = elim c.in-None.ensures.steps [ inl (x, e) ↦ e.0 | inr (x, e) ↦ omega (arith, e.0) ] in
+    record { few = omega arith; sum = omega (arith, c.loop-a.invariant.rest, ap (sad_row at.a.rest.now 0 at.b.rest.now 0) none, row-none at.a.rest.now 0 at.b.rest.now 0) }
