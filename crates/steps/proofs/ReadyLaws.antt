@@ -1,37 +1,25 @@
 -- What a step that is not refused may count on. Assumes nothing.
-use mathlib.Core.Path.{◌≡◌, sym, subst}
-use mathlib.Core.Bool.{true, ◌&&◌, ◌||◌}
-use mathlib.Core.Logic.{⊎_elim}
+use mathlib.Core.Path.{◌≡◌}
+use mathlib.Core.Bool.{true, ◌&&◌}
 use mathlib.Core.List.{List}
 use Prim.Native.Nat.{ℕ, ◌<◌}
-use borrow.Author.Tests.{ltb-true, eqb-true}
-use lib.Dec.{ltb, eqb}
+use borrow.Author.Tests.{ltb-true}
+use lib.Dec.{ltb}
 use lib.ListN.{length}
-use Rattle.ground.proofs.TestLaws.{both, either}
+use Rattle.ground.proofs.TestLaws.{both}
 use Rattle.motion.specs.Superblock.{superblocks}
 use Rattle.grid.specs.Grid.{Grid, room}
 use Rattle.refusal.specs.Refusals.{refuse, ◌then◌, side_ok, level_ok, planes_refusal, grids_hold}
 use Rattle.refusal.proofs.RefusalLaws.{first-passed, passes, none_of, side_of, lent}
 use Rattle.refusal.proofs.GridsLaws.{GridsHeld, grids_held}
 use Rattle.estimate.specs.Inputs.{inputs_of}
-use Rattle.estimate.specs.Asked.{four, three, two, Leveled, Ready}
+use Rattle.estimate.specs.Asked.{Ready}
+use Rattle.estimate.proofs.BlockFacts.{leveled-of}
 use Rattle.steps.specs.Steps.{step_tests}
-
--- the levels of refusal 2, where nothing is refined
-leveled-of : (level : ℕ) → level_ok level 0 ≡ true → Leveled level
-unfolding level_ok
-leveled-of level h =
-    ⊎_elim (λ e. at 2 e two)
-    (λ r.
-    ⊎_elim (λ e. at 3 e three) (λ q. at 4 (both (eqb level 4) true q).0 four)
-    (either (eqb level 3) (eqb level 4 && true) r))
-    (either (eqb level 2) (eqb level 3 || (eqb level 4 && true)) h)
-  where
-    at : (n : ℕ) → eqb level n ≡ true → Leveled n → Leveled level
-    at n e l = subst Leveled (sym (eqb-true level n e)) l
 
 -- what refusals 1 to 5 leave of a step
 pub record StepReady (width height level n : ℕ) (cur ref : List ℕ) (present : ℕ) (prev g : Grid) : Type 0 where
+  pub level_passed : level_ok level 0 ≡ true
   pub ready : (weight : ℕ) → Ready (inputs_of width height level cur ref weight)
   pub inside : n < superblocks width height
   pub grids : GridsHeld width height present prev g
@@ -49,6 +37,7 @@ step-ready width height level n cur ref present prev g e =
     let sides = both (side_ok width) (side_ok height) one.0 in
     let lent = lent width height level (length cur) (length ref) four.0 in
     record {
+      level_passed = two.0;
       ready = λ weight. record {
         wide = side_of width sides.0;
         high = side_of height sides.1;
