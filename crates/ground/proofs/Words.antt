@@ -1,12 +1,12 @@
 -- What a signed operation of the machine needs and gives, said of the numbers: results fit, and bits read back as the number.
 -- Assumes nothing.
-use mathlib.Core.Path.{◌≡◌, refl, sym, ap, ap₂, ◌∙◌}
+use mathlib.Core.Path.{◌≡◌, refl, sym, ap, ◌∙◌}
 use Prim.Native.Nat.{ℕ, zero, suc, ◌+◌, ◌-◌, ◌*◌, ◌/◌, ◌%◌, ◌^◌, ◌≤◌, ◌<◌}
 use native.Mathlib.Nat.{div-le_self, add-mul, mul-pos, zero-lt-suc, mul-add-mod_self_right, mod-eq_of_lt}
 use native.Mathlib.Omega.{arith}
 use lib.Pow.{pow_pos}
 use lib.IntN.{ℤ, pos, negsuc, neg_ℤ, ◌*ℤ◌}
-use lib.Signed.{mag, quot_z, shr_z, mag_shr, lt_z, le_z}
+use lib.Signed.{mag, quot_z, shr_z, mag_shr}
 use mir.Syntax.{Width, w16}
 use mir.Val.{SFits, hbits, to_z, of_z}
 use Rattle.ground.proofs.Bias.{bias, bias_negpos, mag-neg}
@@ -39,23 +39,6 @@ module _ {w : Width} {z : ℤ} (f : SFits w z) where
 pub eighth_bounds : (z : ℤ) → SFits w16 z → (2 ^ 40 ≤ bias (quot_z z (pos 8)) + 4096) × (bias (quot_z z (pos 8)) ≤ 2 ^ 40 + 4095)
 eighth_bounds (pos n) f = omega (arith, f.sfits)
 eighth_bounds (negsuc n) f = omega (arith, f.sfits, bias_negpos (suc n / 8) (omega (arith, f.sfits)))
-
--- a signed test, which the machine makes of bits, is one of the numbers
-module _ (w : Width) {x y : ℤ} (fx : SFits w x) (fy : SFits w y) where
-  pub lt_plain : lt_z (to_z w (of_z w x)) (to_z w (of_z w y)) ≡ lt_z x y
-  lt_plain = ap₂ lt_z (to_z-of_z w x fx) (to_z-of_z w y fy)
-
-  pub le_plain : le_z (to_z w (of_z w x)) (to_z w (of_z w y)) ≡ le_z x y
-  le_plain = ap₂ le_z (to_z-of_z w x fx) (to_z-of_z w y fy)
-
--- a component cut to whole pixels is no larger
-cut-neg : (r n : ℕ) → r * 8 ≤ suc n → mag (neg_ℤ (pos r) *ℤ pos 8) ≤ n
-cut-neg zero n h = omega arith
-cut-neg (suc r) n h = mag-neg (suc r * 8) h
-
-pub mag-cut : (z : ℤ) → mag (quot_z z (pos 8) *ℤ pos 8) ≤ mag z
-mag-cut (pos n) = omega arith
-mag-cut (negsuc n) = cut-neg (suc n / 8) n (omega arith)
 
 -- a shift left by k = 2 ^ s, of the bits, is the multiple where that fits
 shl_neg : (n k x : ℕ) → suc n * suc k ≡ x → n < 2 ^ 15 → mag (neg_ℤ (pos x)) < 2 ^ 15 → to_z w16 (((2 ^ 16 - suc n) * suc k) % 2 ^ 16) ≡ neg_ℤ (pos x)

@@ -1,4 +1,4 @@
-ghost use Rattle.std.specs.Prelude.{◌≡◌, ℕ, ◌+◌, ◌*◌, ◌≤◌, ◌<◌, ◌^◌, min, pos};
+ghost use Rattle.std.specs.Prelude.{◌≡◌, ℕ, ◌≤◌, ◌<◌, ◌^◌, min, pos};
 ghost use Rattle.std.specs.Int.Signed.{shr_z};
 ghost use Rattle.motion.specs.Limits.{vector_limit};
 ghost use Rattle.motion.specs.Range.{mv_min, mv_max, clip, range_of, within, in_range};

@@ -1,17 +1,7 @@
-ghost use Rattle.std.specs.Prelude.{◌≡◌, nat_abs};
+ghost use Rattle.std.specs.Prelude.{◌≡◌};
 ghost use Rattle.motion.specs.Rate.{rate, rate_v};
 
 use crate::vector::MotionVector;
-
-pub fn magnitude(d: i16) -> u16
-    ensures { result ≡ nat_abs d }
-{
-    if d < 0 {
-        (0 - d as i32) as u16
-    } else {
-        d as u16
-    }
-}
 
 // Twice the bit length of half the difference.
 pub fn diff_to_rate(diff: i16) -> u32

@@ -76,34 +76,6 @@ impl Shl<u32> for MotionVector {
 }
 
 impl MotionVector {
-    pub fn plus(self, rhs: MotionVector) -> MotionVector
-        requires { FitsV (plus_v self rhs) }
-        ensures { result ≡ plus_v self rhs }
-    {
-        self + rhs
-    }
-
-    pub fn times(self, rhs: i16) -> MotionVector
-        requires { FitsV (times_v self rhs) }
-        ensures { result ≡ times_v self rhs }
-    {
-        self * rhs
-    }
-
-    pub fn shr(self, rhs: u32) -> MotionVector
-        requires { rhs < 16 }
-        ensures { result ≡ shr_v self rhs }
-    {
-        self >> rhs
-    }
-
-    pub fn shl(self, rhs: u32) -> MotionVector
-        requires { (rhs < 16) × FitsV (shl_v self rhs) }
-        ensures { result ≡ shl_v self rhs }
-    {
-        self << rhs
-    }
-
     #[tactic(auto, using(std::proofs::lemmas::Int::ints), unfolding(crate::specs::Vector::fullpel_v))]
     pub fn quantize_to_fullpel(self) -> MotionVector
         ensures { result ≡ fullpel_v self }

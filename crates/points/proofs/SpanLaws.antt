@@ -56,9 +56,6 @@ module _ (lo hi : ℤ) (ml : mag lo ≤ 8192) (mh : mag hi ≤ 8192) where
       let size = mag-add hi (neg_ℤ lo) in
       omega (arith, minus, bias_add (hi -ℤ lo) (pos 1) (omega (arith, size, mag-negℤ lo)) (omega arith))
 
-  pub reach_size : mag (hi -ℤ lo +ℤ pos 1) ≤ 16388
-  reach_size = omega (arith, mag-add (hi -ℤ lo) (pos 1), mag-add hi (neg_ℤ lo), mag-negℤ lo)
-
   count_by : (t : Bool) → ltb (bias hi) (bias lo) ≡ t → (k : ℕ) → k < cond t 0 (nat_abs (hi -ℤ lo +ℤ pos 1)) → bias lo + k ≤ bias hi
   count_by true e k h = absurd (omega arith)
   count_by false e k h =
@@ -91,9 +88,6 @@ module _ (lo : ℤ) (k : ℕ) (f : SFits w16 lo) (s : Spanned lo k) where
   most =
       let e = sym (le_z-bias (lo +ℤ pos k) (pos 4095) sum_small (omega arith)) ∙ s.most in
       omega (arith, leb-true (bias (lo +ℤ pos k)) (bias (pos 4095)) e)
-
-  pub sum_fits : SFits w16 (lo +ℤ pos k)
-  sum_fits = record { sfits = omega (arith, small_by (lo +ℤ pos k) 4096 (omega (arith, least, moved)) (omega (arith, most)) (omega arith)) }
 
   pub span_fits : SFits w16 (pos 8 *ℤ (lo +ℤ pos k))
   span_fits = eight_fits (lo +ℤ pos k) (omega (arith, least, moved)) most

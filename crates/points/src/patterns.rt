@@ -1,8 +1,7 @@
-ghost use Rattle.std.specs.Prelude.{◌≡◌, ◌≤◌, ◌<◌, pos};
-ghost use Rattle.motion.specs.Vector.{times_v};
+ghost use Rattle.std.specs.Prelude.{◌≡◌, ◌<◌};
 ghost use Rattle.motion.specs.Asked.{Near};
 ghost use Rattle.points.specs.Patterns.{eighths_place, offset, points, point_of, hexagon_point};
-ghost use Rattle.points.specs.Asked.{Slight, Plain};
+ghost use Rattle.points.specs.Asked.{Plain};
 
 use motion::vector::MotionVector;
 

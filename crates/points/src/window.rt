@@ -1,6 +1,6 @@
 ghost use Rattle.std.specs.Prelude.{◌≡◌, ◌≤◌, ◌<◌, pos};
 ghost use Rattle.std.specs.Int.Signed.{mag, quot_z};
-ghost use Rattle.points.specs.Window.{larger, smaller, span_count, span_at, refine_span, refine_window, window_ok};
+ghost use Rattle.points.specs.Window.{span_count, span_at, refine_span, refine_window, window_ok};
 ghost use Rattle.points.specs.Asked.{Spanned};
 
 use motion::limits::EIGHTHS;
