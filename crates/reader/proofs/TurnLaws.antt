@@ -1,5 +1,5 @@
 -- Laws of a fragment taken in byte by byte: where it stands after i turns. Assumes nothing.
-use mathlib.Core.Path.{◌≡◌, sym, ap, ap₂, subst, ◌∙◌}
+use mathlib.Core.Path.{◌≡◌, sym, ap, ap₂, subst, subst₂, ◌∙◌}
 use mathlib.Core.List.{List, [], ◌∷◌}
 use Prim.Native.Nat.{ℕ, ◌+◌, ◌-◌, ◌≤◌, ◌<◌}
 use lib.ListN.{length, get_or, take, drop, take-append-drop}
@@ -74,6 +74,10 @@ module _ {space : ℕ} {s : State} {fragment : List ℕ} {lent : Grid} {i : ℕ}
 
     pub turned-rest : {r' : Reader} {g' : Grid} → Done space (state_of r) (take (length fragment - i) (drop i fragment)) g r' g' → Done space s fragment lent r' g'
     turned-rest done = (seen_rest t.seen b.state done.0, rest_kept done.1)
+
+    pub turned-on : {rest : List ℕ} {r' : Reader} {g' : Grid} → rest ≡ drop i fragment → Done (room g) (state_of r) rest g r' g' → Done space s fragment lent r' g'
+    turned-on {r' = r'} {g' = g'} is done =
+        turned-rest (subst₂ (λ (n : ℕ) (l : List ℕ). Done n (state_of r) l g r' g') (sym turned-room) (is ∙ sym (rest_of fragment i)) done)
 
     -- of which nothing counts after a refusal
     pub turned-refused : (r.code ≡ 0 → ⊥) → Done space s fragment lent r g

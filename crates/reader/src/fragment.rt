@@ -1,155 +1,102 @@
-ghost use Rattle.std.specs.Prelude.{◌≡◌, ◌+◌, ◌*◌, ◌-◌, ◌/◌, ◌≤◌, ◌<◌, min, length, take};
-ghost use Rattle.grid.specs.Grid.{grid_of, room};
+ghost use Rattle.std.specs.Prelude.{◌≡◌, ◌+◌, ◌*◌, ◌-◌, ◌≤◌, ◌<◌, length, take};
+ghost use Rattle.grid.specs.Grid.{room};
+ghost use Rattle.grid.specs.Lent.{lent_mut, SameBuffers};
 ghost use Rattle.records.specs.Forms.{cell_bytes, most_cells};
 ghost use Rattle.gridfile.specs.Reading.{head_of, between, taken, keep, kept};
 ghost use Rattle.held.specs.Held.{reader_of, state_of, Settled};
 ghost use Rattle.reader.specs.Calls.{Fits};
 
-use grid::cells::{least, save_cell};
-use held::bytes::next_byte;
-use held::state::{Reader, at_a_cell, between, count_of, missing};
-use records::limits::{CELL_BYTES, CELL_LAST, MARK};
-use records::numbers::get_16;
-use records::parts::get_cell;
-
-// Where a cell's last byte stands in what is held.
-const LAST_PLACE: usize = CELL_LAST as usize;
+use grid::lent::GridMut;
+use held::state::{Reader, between};
+use records::limits::{CELL_BYTES, CELL_LAST};
+use records::parts::{get_cell, is_marked};
 
 // The cell that a byte completes goes to the grid.
-fn keep_byte(reader: Reader, byte: u8, rows: &mut [i16], cols: &mut [i16], sads: &mut [u32])
-    requires { Settled reader × Fits (room (grid_of rows.old cols.old sads.old)) (state_of reader) }
-    ensures { grid_of rows.new cols.new sads.new ≡ keep (room (grid_of rows.old cols.old sads.old)) (state_of reader) byte (grid_of rows.old cols.old sads.old) }
+fn keep_byte(reader: Reader, byte: u8, grid: &mut GridMut<'_>)
+    requires { Settled reader × Fits (room (lent_mut grid.old)) (state_of reader) }
+    ensures kept { lent_mut grid.new ≡ keep (room (lent_mut grid.old)) (state_of reader) byte (lent_mut grid.old) }
+    ensures same { SameBuffers grid.old grid.new }
 {
-    if reader.code != 0 {
+    if reader.code != 0 || reader.held != CELL_LAST {
         return;
     }
-    if reader.held != CELL_LAST {
-        return;
-    }
-    if count_of(reader) <= reader.cells as usize {
+    let place = reader.cells as usize;
+    if reader.count() <= place {
         return;
     }
     let mut record = reader.part;
-    record[LAST_PLACE] = byte;
-    let cell = get_cell(&record, 0);
-    save_cell(reader.cells as usize, cell, rows, cols, sads);
+    record[CELL_BYTES - 1] = byte;
+    grid.save_cell(place, get_cell(&record, 0));
 }
 
 // A fragment byte by byte, up to the first that is refused.
-fn take_bytes(
-    reader: Reader,
-    space: usize,
-    fragment: &[u8],
-    rows: &mut [i16],
-    cols: &mut [i16],
-    sads: &mut [u32],
-) -> Reader
-    requires { Settled reader × Fits space (state_of reader) × (space ≡ room (grid_of rows.old cols.old sads.old)) }
-    ensures value { result ≡ reader_of (taken space (state_of reader) fragment.now) }
-    ensures sads_value { grid_of rows.new cols.new sads.new ≡ kept space (state_of reader) fragment.now (grid_of rows.old cols.old sads.old) }
+fn take_bytes(reader: Reader, fragment: &[u8], grid: &mut GridMut<'_>) -> Reader
+    requires { Settled reader × Fits (room (lent_mut grid.old)) (state_of reader) }
+    ensures state { result ≡ reader_of (taken (room (lent_mut grid.old)) (state_of reader) fragment.now) }
+    ensures kept { lent_mut grid.new ≡ kept (room (lent_mut grid.old)) (state_of reader) fragment.now (lent_mut grid.old) }
+    ensures same { SameBuffers grid.old grid.new }
 {
+    let room = grid.room();
     let mut held = reader;
-    let mut i = 0;
-    while i < fragment.len() {
+    for &byte in fragment {
         if held.code != 0 {
             return held;
         }
-        let byte = fragment[i];
-        keep_byte(held, byte, rows, cols, sads);
-        held = next_byte(held, space, byte);
-        i += 1;
+        keep_byte(held, byte, grid);
+        held = held.next_byte(room, byte);
     }
     held
 }
 
-// How many whole cell records may stand in so many bytes, where so many of the header's cells are in.
-fn whole_records(count: usize, cells: usize, bytes: usize) -> usize
-    ensures { result ≡ min (count - cells) (bytes / cell_bytes) }
-{
-    if count <= cells {
-        return 0;
-    }
-    least(count - cells, bytes / CELL_BYTES)
-}
-
 // Cell records that are whole and good, from a fragment's start: how many. It need not be all of them, as the bytes behind are
 // taken in one by one.
-fn take_records(
-    columns: usize,
-    down: usize,
-    cells: usize,
-    fragment: &[u8],
-    rows: &mut [i16],
-    cols: &mut [i16],
-    sads: &mut [u32],
-) -> usize
-    requires columns_nonzero { (0 < columns) × (columns ≤ most_cells) × (down ≤ most_cells) }
-    requires down_in_bounds { (columns * down ≤ length rows.old) × (columns * down ≤ length cols.old) × (columns * down ≤ length sads.old) }
-    ensures upper_bound { (result ≤ columns * down - cells) × (cell_bytes * result ≤ length fragment.now) × (taken 0 (between (head_of columns down) cells) (take (cell_bytes * result) fragment.now) ≡ between (head_of columns down) (cells + result)) }
-    ensures sads_value { grid_of rows.new cols.new sads.new ≡ kept 0 (between (head_of columns down) cells) (take (cell_bytes * result) fragment.now) (grid_of rows.old cols.old sads.old) }
+fn take_records(reader: Reader, fragment: &[u8], grid: &mut GridMut<'_>) -> usize
+    requires said { (0 < reader.columns) × (reader.columns ≤ most_cells) × (reader.rows ≤ most_cells) }
+    requires room { reader.columns * reader.rows ≤ room (lent_mut grid.old) }
+    ensures few { (result ≤ reader.columns * reader.rows - reader.cells) × (cell_bytes * result ≤ length fragment.now) }
+    ensures state { taken 0 (between (head_of reader.columns reader.rows) reader.cells) (take (cell_bytes * result) fragment.now) ≡ between (head_of reader.columns reader.rows) (reader.cells + result) }
+    ensures kept { lent_mut grid.new ≡ kept 0 (between (head_of reader.columns reader.rows) reader.cells) (take (cell_bytes * result) fragment.now) (lent_mut grid.old) }
+    ensures same { SameBuffers grid.old grid.new }
 {
-    let most = whole_records(columns * down, cells, fragment.len());
-    let mut i = 0;
-    while i < most {
-        if get_16(fragment, CELL_BYTES * i) != MARK {
+    let first = reader.cells as usize;
+    let left = reader.count().saturating_sub(first);
+    let most = left.min(fragment.len() / CELL_BYTES);
+    for i in 0..most {
+        if !is_marked(fragment, CELL_BYTES * i) {
             return i;
         }
-        let cell = get_cell(fragment, CELL_BYTES * i);
-        save_cell(cells + i, cell, rows, cols, sads);
-        i += 1;
+        grid.save_cell(first + i, get_cell(fragment, CELL_BYTES * i));
     }
-    i
+    most
 }
 
 // A fragment whose whole records are taken in at once where it starts with one.
-fn take_on(
-    reader: Reader,
-    space: usize,
-    fragment: &[u8],
-    rows: &mut [i16],
-    cols: &mut [i16],
-    sads: &mut [u32],
-) -> Reader
-    requires { Settled reader × Fits space (state_of reader) × (space ≡ room (grid_of rows.old cols.old sads.old)) }
-    ensures value { result ≡ reader_of (taken space (state_of reader) fragment.now) }
-    ensures sads_value { grid_of rows.new cols.new sads.new ≡ kept space (state_of reader) fragment.now (grid_of rows.old cols.old sads.old) }
+fn take_on(reader: Reader, fragment: &[u8], grid: &mut GridMut<'_>) -> Reader
+    requires { Settled reader × Fits (room (lent_mut grid.old)) (state_of reader) }
+    ensures state { result ≡ reader_of (taken (room (lent_mut grid.old)) (state_of reader) fragment.now) }
+    ensures kept { lent_mut grid.new ≡ kept (room (lent_mut grid.old)) (state_of reader) fragment.now (lent_mut grid.old) }
+    ensures same { SameBuffers grid.old grid.new }
 {
-    if !at_a_cell(reader) {
-        return take_bytes(reader, space, fragment, rows, cols, sads);
+    if !reader.at_a_cell() {
+        return take_bytes(reader, fragment, grid);
     }
-    let columns = reader.columns as usize;
-    let down = reader.rows as usize;
-    let cells = reader.cells as usize;
-    let whole = take_records(columns, down, cells, fragment, rows, cols, sads);
+    let whole = take_records(reader, fragment, grid);
     let last = between(0, reader.columns, reader.rows, reader.cells + whole as u32);
-    let rest = &fragment[CELL_BYTES * whole..fragment.len()];
-    take_bytes(last, space, rest, rows, cols, sads)
+    take_bytes(last, &fragment[CELL_BYTES * whole..], grid)
 }
 
 // A fragment: the bytes that complete a record begun, then the rest.
-pub(crate) fn take_fragment(
-    reader: Reader,
-    space: usize,
-    fragment: &[u8],
-    rows: &mut [i16],
-    cols: &mut [i16],
-    sads: &mut [u32],
-) -> Reader
-    requires { Settled reader × (reader.code ≡ 0) × Fits space (state_of reader) × (space ≡ room (grid_of rows.old cols.old sads.old)) }
-    ensures value { result ≡ reader_of (taken space (state_of reader) fragment.now) }
-    ensures sads_value { grid_of rows.new cols.new sads.new ≡ kept space (state_of reader) fragment.now (grid_of rows.old cols.old sads.old) }
+pub(crate) fn take_fragment(reader: Reader, fragment: &[u8], grid: &mut GridMut<'_>) -> Reader
+    requires { Settled reader × (reader.code ≡ 0) × Fits (room (lent_mut grid.old)) (state_of reader) }
+    ensures state { result ≡ reader_of (taken (room (lent_mut grid.old)) (state_of reader) fragment.now) }
+    ensures kept { lent_mut grid.new ≡ kept (room (lent_mut grid.old)) (state_of reader) fragment.now (lent_mut grid.old) }
+    ensures same { SameBuffers grid.old grid.new }
 {
-    let ahead = missing(reader);
+    let ahead = reader.missing();
     if fragment.len() <= ahead {
-        return take_bytes(reader, space, fragment, rows, cols, sads);
+        return take_bytes(reader, fragment, grid);
     }
-    let first = take_bytes(reader, space, &fragment[0..ahead], rows, cols, sads);
-    take_on(
-        first,
-        space,
-        &fragment[ahead..fragment.len()],
-        rows,
-        cols,
-        sads,
-    )
+    let (front, rest) = fragment.split_at(ahead);
+    let first = take_bytes(reader, front, grid);
+    take_on(first, rest, grid)
 }

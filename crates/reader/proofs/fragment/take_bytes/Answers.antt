@@ -1,52 +1,70 @@
--- `reader::fragment::take_bytes` meets its contract: after i turns the first i bytes have been taken in. Assumes nothing.
+-- `reader::fragment::take_bytes` meets its contract: after each turn the bytes so far have been taken in. Assumes nothing.
 use borrow.Author.Rules.{rules}
-use mathlib.Core.Path.{sym, subst}
-use Prim.Native.Nat.{ℕ}
-use native.Mathlib.Omega.{arith}
-use lib.ListN.{get_or}
-use mir.Syntax.{w8}
-use mir.Val as val
-use Rattle.grid.specs.Grid.{grid_of}
+use Rattle.std.proofs.Common.{ℕ, get_or, sym, subst, Fits as FitsWord, w8, arith}
+use Rattle.grid.specs.Grid.{room}
+use Rattle.grid.specs.Lent.{lent_mut}
 use Rattle.records.specs.Numbers.{OfBytes}
+use Rattle.gridfile.proofs.LentLaws.{same_here, same_on}
 use Rattle.held.specs.Held.{state_of}
 use Rattle.reader.specs.Calls.{Fits}
-use Rattle.reader.proofs.TurnLaws.{Begins, begins, turned_none, turned-settled, turned-fits, turned-room, turned_more, turned-refused}
-use Rattle.reader.proofs.fragment.take_bytes.Goals.{At-loop-i}
+use Rattle.reader.proofs.TurnLaws.{Begins, begins, Done, turned_none, turned-all, turned-settled, turned-fits, turned-room, turned_more, turned-refused}
+use Rattle.reader.proofs.fragment.take_bytes.Goals.{At-loop-byte, Then-held-ne0, After-loop-byte}
 use Rattle.reader.proofs.fragment.take_bytes.Goals as goal
 
-module _ (c : At-loop-i) where
+module _ (c : At-loop-byte) where
   part_bytes : OfBytes c.args.reader.part
   part_bytes k =
-      let small : val.Fits w8 (get_or c.args.reader.part k 0) = search rules in
+      let small : FitsWord w8 (get_or c.args.reader.part k 0) = search rules in
       omega (arith, small)
 
   fragment_bytes : OfBytes c.args.fragment.now
-  fragment_bytes k = omega (arith, c.shared_slice_known-1.given k)
+  fragment_bytes k =
+      let small : FitsWord w8 (get_or c.args.fragment.now k 0) = search rules in
+      omega (arith, small)
 
-  start : Begins c.args.space (state_of c.args.reader) c.args.fragment.now (grid_of c.args.rows.now c.args.cols.now c.args.sads.now)
-  start = begins c.args.reader part_bytes fragment_bytes c.requires.1 c.requires.2
+  start : Begins c.room-room.result (state_of c.args.reader) c.args.fragment.now (lent_mut c.args.grid.now)
+  start =
+      begins c.args.reader part_bytes fragment_bytes (subst (λ (n : ℕ). Fits n (state_of c.args.reader)) (sym c.room-room.ensures) c.requires.1) c.room-room.ensures
 
-pub loop-i-init : goal.loop-i-init
-loop-i-init c =
-    turned_none _ _ _ _ _ (sym c.requires.0)
+-- all that counts has been taken in
+refused : (c : Then-held-ne0) → Done (room (lent_mut c.args.grid.now)) (state_of c.args.reader) c.args.fragment.now (lent_mut c.args.grid.now) c.loop-byte.held (lent_mut c.loop-byte.grid)
+refused c =
+    let done = turned-refused c.loop-byte.invariant.turned (start (goal.at.Then-held-ne0 c).At-loop-byte) c.if-held-ne0.true in
+    subst (λ (n : ℕ). Done n (state_of c.args.reader) c.args.fragment.now (lent_mut c.args.grid.now) c.loop-byte.held (lent_mut c.loop-byte.grid)) c.room-room.ensures done
 
-pub returns-then-held-ne0-clause-value : goal.returns-then-held-ne0-clause-value
-returns-then-held-ne0-clause-value c =
-    (turned-refused c.loop-i.invariant (start (goal.at.returns-then-held-ne0-clause-value c).At-loop-i) c.if-held-ne0.true).0
+all : (c : After-loop-byte) → Done (room (lent_mut c.args.grid.now)) (state_of c.args.reader) c.args.fragment.now (lent_mut c.args.grid.now) c.loop-byte.held (lent_mut c.loop-byte.grid)
+all c =
+    let done = turned-all c.loop-byte.invariant.turned c.loop-byte-test.false in
+    subst (λ (n : ℕ). Done n (state_of c.args.reader) c.args.fragment.now (lent_mut c.args.grid.now) c.loop-byte.held (lent_mut c.loop-byte.grid)) c.room-room.ensures done
 
-pub returns-then-held-ne0-clause-sads_value : goal.returns-then-held-ne0-clause-sads_value
-returns-then-held-ne0-clause-sads_value c =
-    (turned-refused c.loop-i.invariant (start (goal.at.returns-then-held-ne0-clause-sads_value c).At-loop-i) c.if-held-ne0.true).1
+pub loop-byte-init : goal.loop-byte-init
+loop-byte-init c = record { turned = turned_none _ _ _ _ _ (sym c.requires.0); same = same_here c.args.grid.now }
 
 pub keep_byte-requires : goal.keep_byte-requires
 keep_byte-requires c =
-    let t = c.loop-i.invariant in
-    (turned-settled t (start (goal.at.keep_byte-requires c).At-loop-i), subst (λ (n : ℕ). Fits n (state_of c.loop-i.held)) (turned-room t (start (goal.at.keep_byte-requires c).At-loop-i)) (turned-fits t (start (goal.at.keep_byte-requires c).At-loop-i)))
+    let t = c.loop-byte.invariant.turned in
+    let begun = start (goal.at.keep_byte-requires c).At-loop-byte in
+    (turned-settled t begun, subst (λ (n : ℕ). Fits n (state_of c.loop-byte.held)) (turned-room t begun) (turned-fits t begun))
 
 pub next_byte-held-requires : goal.next_byte-held-requires
 next_byte-held-requires c =
-    turned-settled c.loop-i.invariant (start (goal.at.next_byte-held-requires c).At-loop-i)
+    turned-settled c.loop-byte.invariant.turned (start (goal.at.next_byte-held-requires c).At-loop-byte)
 
-pub loop-i-preserved : goal.loop-i-preserved
-loop-i-preserved c =
-    turned_more c.loop-i.invariant (start (goal.at.loop-i-preserved c).At-loop-i) c.loop-i-test.true c.next_byte-held.ensures c.keep_byte.ensures
+pub loop-byte-preserved : goal.loop-byte-preserved
+loop-byte-preserved c =
+    record {
+      turned = turned_more c.loop-byte.invariant.turned (start (goal.at.loop-byte-preserved c).At-loop-byte) c.loop-byte-test.true c.next_byte-held.ensures c.keep_byte.ensures.kept;
+      same = same_on c.loop-byte.invariant.same c.keep_byte.ensures.same;
+    }
+
+pub returns-then-held-ne0-clause-state : goal.returns-then-held-ne0-clause-state
+returns-then-held-ne0-clause-state c = (refused (goal.at.returns-then-held-ne0-clause-state c).Then-held-ne0).0
+
+pub returns-then-held-ne0-clause-kept : goal.returns-then-held-ne0-clause-kept
+returns-then-held-ne0-clause-kept c = (refused (goal.at.returns-then-held-ne0-clause-kept c).Then-held-ne0).1
+
+pub returns-clause-state : goal.returns-clause-state
+returns-clause-state c = (all (goal.at.returns-clause-state c).After-loop-byte).0
+
+pub returns-clause-kept : goal.returns-clause-kept
+returns-clause-kept c = (all (goal.at.returns-clause-kept c).After-loop-byte).1
