@@ -11,7 +11,7 @@ use records::parts::get_cell;
 use text::writer::Writer;
 
 // What goes from a step to the next: cells across, and the place of the next cell.
-#[derive(Clone, Copy)]
+#[derive(Clone, Copy, Debug, PartialEq, Eq)]
 pub struct Listing {
     pub across: usize,
     pub next: usize,

@@ -36,8 +36,8 @@ fn cell(rt: &impl Print, across: usize, i: usize, stats: MEStats)
 
 // A grid as document 01 lists it: `cells COLUMNS ROWS`, then X Y ROW COL SAD for each cell, row by row.
 pub fn grid(rt: &impl Print, across: usize, cells: usize, lent: &GridRef<'_>)
-    requires across_nonzero { (0 < across) × (across ≤ across_most) × (cells ≤ cells_most) }
-    requires cells_in_bounds { (cells ≤ length lent.now.rows.now) × (cells ≤ length lent.now.cols.now) × (cells ≤ length lent.now.sads.now) }
+    requires shape { (0 < across) × (across ≤ across_most) × (cells ≤ cells_most) }
+    requires held { (cells ≤ length lent.now.rows.now) × (cells ≤ length lent.now.cols.now) × (cells ≤ length lent.now.sads.now) }
 {
     heading(rt, across, cells / across);
     for i in 0..cells {

@@ -14,7 +14,7 @@ use text::writer::Writer;
 
 // What goes from a step to the next: cells across, the place of the next cell, and how many differed. There is no Listing in it:
 // every clause and definition would read two of its numbers through one more name.
-#[derive(Clone, Copy)]
+#[derive(Clone, Copy, Debug, PartialEq, Eq)]
 pub struct Report {
     pub across: usize,
     pub next: usize,
