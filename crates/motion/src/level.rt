@@ -2,6 +2,7 @@ ghost use Rattle.std.specs.Prelude.{◌≡◌};
 ghost use Rattle.motion.specs.Level.{level_of};
 
 // A level: its block size in full-size pixels, its shift, its planes' pad, and the size refined first.
+// Bounds on these stand in contracts: an invariant would ask them of all who make a level.
 #[derive(Clone, Copy, PartialEq, Eq, Debug)]
 pub struct Level {
     pub mv_size: usize,

@@ -6,7 +6,7 @@ ghost use Rattle.motion.specs.Range.{mv_min, mv_max, clip, range_of, within, in_
 use crate::limits::VECTOR_LIMIT;
 use crate::vector::MotionVector;
 
-// The vectors that a block may take, both ends included.
+// The vectors that a block may take, both ends included. Four fields, since the definitions name the four ends.
 #[derive(Clone, Copy, PartialEq, Eq, Debug)]
 pub struct MvRange {
     pub mvx_min: i16,
@@ -52,7 +52,7 @@ fn mv_max(in_b: usize, b: usize, ssdec: u32) -> i16
     clipped(32 * (in_b - b) + 128) >> ssdec
 }
 
-// The range of the block of blk_w by blk_h full-size pixels at cell (bx, by), at shift ssdec.
+// The range of the block of blk_w by blk_h full-size pixels at cell (bx, by), at shift ssdec: the numbers of the definition.
 #[tactic(auto, using(std::proofs::lemmas::Int::ints), unfolding(crate::specs::Range::range_of))]
 pub(crate) fn get_mv_range(
     w_in_b: usize,

@@ -4,7 +4,7 @@ ghost use Rattle.motion.specs.Superblock.{superblocks_along, superblocks, superb
 
 use crate::limits::{CELL_SIDE, SB_SIZE};
 
-// How many superblocks lie along a side.
+// How many superblocks lie along a side. A side is a number here and in the contracts, as in the definitions and in C.
 pub fn superblocks_along(side: usize) -> usize
     requires { side ≤ largest_side }
     ensures { result ≡ superblocks_along side }

@@ -7,7 +7,7 @@ use motion::limits::EIGHTHS;
 use motion::range::MvRange;
 use motion::vector::MotionVector;
 
-// So many whole pixels of one axis, from the first.
+// So many whole pixels of one axis, from the first. No range, since the definitions count.
 #[derive(Clone, Copy, PartialEq, Eq, Debug)]
 pub struct Span {
     pub lo: i16,
