@@ -3,13 +3,11 @@ ghost use Rattle.grid.specs.Grid.{grid_of};
 ghost use Rattle.searches.specs.Searches.{search_answer};
 ghost use Rattle.searches.specs.Refinement.{refine_answer};
 
-use crate::refinement::refine_block;
+use crate::refinement::refine;
 use crate::searches::{Method, single_search};
-use grid::cells::{cell_at, room, stored_at};
-use motion::level::level_of;
+use grid::lent::GridRef;
 use motion::vector::MotionVector;
-use refusal::refusals::{call_refusal, grid_ok};
-use single::call::block_at;
+use refusal::refusals::BlockCall;
 use single::found::Found;
 
 pub fn lockdapple_diamond(
@@ -26,19 +24,16 @@ pub fn lockdapple_diamond(
 ) -> Found
     ensures { result ≡ search_answer Method.Diamond width height level bx by cur.now reference.now (record { row = row; col = col }) weight }
 {
-    let mv = MotionVector { row, col };
-    single_search(
-        Method::Diamond,
+    let call = BlockCall {
         width,
         height,
         level,
+        refined: 0,
         bx,
         by,
-        cur,
-        reference,
-        mv,
-        weight,
-    )
+    };
+    let mv = MotionVector { row, col };
+    Found::from(single_search(Method::Diamond, call, cur, reference, mv, weight))
 }
 
 pub fn lockdapple_hexagon(
@@ -55,19 +50,16 @@ pub fn lockdapple_hexagon(
 ) -> Found
     ensures { result ≡ search_answer Method.Hexagon width height level bx by cur.now reference.now (record { row = row; col = col }) weight }
 {
-    let mv = MotionVector { row, col };
-    single_search(
-        Method::Hexagon,
+    let call = BlockCall {
         width,
         height,
         level,
+        refined: 0,
         bx,
         by,
-        cur,
-        reference,
-        mv,
-        weight,
-    )
+    };
+    let mv = MotionVector { row, col };
+    Found::from(single_search(Method::Hexagon, call, cur, reference, mv, weight))
 }
 
 pub fn lockdapple_multi_hexagon(
@@ -84,19 +76,16 @@ pub fn lockdapple_multi_hexagon(
 ) -> Found
     ensures { result ≡ search_answer Method.MultiHexagon width height level bx by cur.now reference.now (record { row = row; col = col }) weight }
 {
-    let mv = MotionVector { row, col };
-    single_search(
-        Method::MultiHexagon,
+    let call = BlockCall {
         width,
         height,
         level,
+        refined: 0,
         bx,
         by,
-        cur,
-        reference,
-        mv,
-        weight,
-    )
+    };
+    let mv = MotionVector { row, col };
+    Found::from(single_search(Method::MultiHexagon, call, cur, reference, mv, weight))
 }
 
 pub fn lockdapple_refine(
@@ -114,15 +103,14 @@ pub fn lockdapple_refine(
 ) -> Found
     ensures { result ≡ refine_answer width height level bx by cur.now reference.now (grid_of rows.now cols.now sads.now) weight }
 {
-    let code = call_refusal(width, height, level, 1, bx, by, cur.len(), reference.len());
-    if code != 0 {
-        return Found::refuse(code);
-    }
-    if !grid_ok(width, height, room(rows.len(), cols.len(), sads.len())) {
-        return Found::refuse(5);
-    }
-    let b = block_at(width, height, level, 1, bx, by).weighed(weight);
-    let stored = stored_at(rows, cols, cell_at(width, bx, by));
-    let ssdec = level_of(level).ssdec;
-    refine_block(b, cur, reference, stored, ssdec)
+    let call = BlockCall {
+        width,
+        height,
+        level,
+        refined: 1,
+        bx,
+        by,
+    };
+    let grid = GridRef { rows, cols, sads };
+    Found::from(refine(call, cur, reference, &grid, weight))
 }
