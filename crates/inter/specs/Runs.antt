@@ -7,7 +7,12 @@ use Rattle.refusal.specs.Refusals.{refuse, ◌then◌, side_ok, planes_refusal, 
 use Rattle.estimate.specs.Inputs.{Planes}
 use Rattle.frame.specs.Run.{frame_run}
 use Rattle.order.specs.List.{list_refusal}
-use Rattle.inter.specs.declared.runs.PlaneLengths.{PlaneLengths}
+
+-- how long the three planes of a frame are
+pub record PlaneLengths : Type 0 where
+  pub full : ℕ
+  pub half : ℕ
+  pub quarter : ℕ
 
 -- the lengths of three planes
 unfoldable pub lengths_of : Planes → PlaneLengths

@@ -1,73 +1,64 @@
 -- `inter::runs::run_tests` meets its contract: each return has the tests before it passed.
-use mathlib.Core.Path.{◌≡◌, sym, ◌∙◌}
-use mathlib.Core.Bool.{true, ◌&&◌}
-use Prim.Native.Nat.{◌≤◌}
-use Rattle.ground.proofs.TestLaws.{passed, failed}
+use Rattle.std.proofs.Common.{◌≡◌, ◌≤◌, true, ◌&&◌, length, sym, rules, arith}
+use Rattle.std.proofs.lemmas.Grind.{common_steps}
+use Rattle.ground.proofs.TestLaws.{both}
 use Rattle.motion.specs.Limits.{largest_side}
 use Rattle.refusal.specs.Refusals.{refuse, ◌then◌, side_ok, planes_refusal}
-use Rattle.refusal.proofs.RefusalLaws.{side_of, planes_short}
-use Rattle.inter.specs.Runs.{run_tests}
-use Rattle.inter.proofs.runs.run_tests.Goals.{Else-not-side_ok-2, Else-planes_refusal-ne0, Else-planes_refusal-ne0-2}
+use Rattle.refusal.proofs.RefusalLaws.{side_of}
+use Rattle.refusal.proofs.KindsLaws.{err-then}
+use Rattle.refusal.proofs.PresentLaws.{fit-of}
+use Rattle.inter.specs.Runs.{lengths_of, run_tests}
+use Rattle.inter.proofs.runs.run_tests.Goals.{Else-not-side_ok, In_ok-planes_test, In_ok-planes_test-2}
 use Rattle.inter.proofs.runs.run_tests.Goals as goal
 
-sides_passed : (c : Else-not-side_ok-2) → side_ok c.args.width && side_ok c.args.height ≡ true
-sides_passed c =
-    rw (passed c.side_ok.ensures c.if-not-side_ok.false-raw, passed c.side_ok-2.ensures c.if-not-side_ok-2.false-raw)
+sides : (c : Else-not-side_ok) → side_ok c.args.width && side_ok c.args.height ≡ true
+sides c = search rules
 
-short : (c : Else-not-side_ok-2) → (c.args.width ≤ largest_side) × (c.args.height ≤ largest_side)
-short c = (
-  (side_of _ (passed c.side_ok.ensures c.if-not-side_ok.false-raw)).most,
-  (side_of _ (passed c.side_ok-2.ensures c.if-not-side_ok-2.false-raw)).most,
-)
+short : (c : Else-not-side_ok) → (c.args.width ≤ largest_side) × (c.args.height ≤ largest_side)
+short c =
+    let passed = both (side_ok c.args.width) (side_ok c.args.height) (sides c) in
+    ((side_of c.args.width passed.0).most, (side_of c.args.height passed.1).most)
 
-quarter-passed : (c : Else-planes_refusal-ne0) → planes_refusal c.args.width c.args.height 4 c.args.cur.quarter c.args.reference.quarter ≡ 0
-quarter-passed c = sym c.planes_refusal.ensures ∙ c.if-planes_refusal-ne0.false
+quarter : (c : In_ok-planes_test) → planes_refusal c.args.width c.args.height 4 (length c.args.cur.now.quarter.now) (length c.args.reference.now.quarter.now) ≡ 0
+quarter c = sym c.in_ok-planes_test.ensures
 
-half-passed : (c : Else-planes_refusal-ne0-2) → planes_refusal c.args.width c.args.height 3 c.args.cur.half c.args.reference.half ≡ 0
-half-passed c = sym c.planes_refusal-2.ensures ∙ c.if-planes_refusal-ne0-2.false
+half : (c : In_ok-planes_test-2) → planes_refusal c.args.width c.args.height 3 (length c.args.cur.now.half.now) (length c.args.reference.now.half.now) ≡ 0
+half c = sym c.in_ok-planes_test-2.ensures
 
 pub returns-then-not-side_ok : goal.returns-then-not-side_ok
 unfolding run_tests refuse ◌then◌
-returns-then-not-side_ok c = rw (failed c.side_ok.ensures c.if-not-side_ok.true-raw)
+returns-then-not-side_ok c = grind (arith, common_steps)
 
-pub returns-then-not-side_ok-2 : goal.returns-then-not-side_ok-2
-unfolding run_tests refuse ◌then◌
-returns-then-not-side_ok-2 c =
-    rw (passed c.side_ok.ensures c.if-not-side_ok.false-raw, failed c.side_ok-2.ensures c.if-not-side_ok-2.true-raw)
+pub planes_test-requires : goal.planes_test-requires
+planes_test-requires c = short c
 
-pub planes_refusal-requires : goal.planes_refusal-requires
-planes_refusal-requires c = short c
+pub returns-in_err-planes_test : goal.returns-in_err-planes_test
+unfolding run_tests lengths_of refuse ◌then◌
+returns-in_err-planes_test c = rw (sides (goal.at.returns-in_err-planes_test c).Else-not-side_ok) (search (rules, err-then))
 
-pub returns-then-planes_refusal-ne0 : goal.returns-then-planes_refusal-ne0
-unfolding run_tests refuse ◌then◌
-returns-then-planes_refusal-ne0 c =
-    rw (sides_passed (goal.at.returns-then-planes_refusal-ne0 c).Else-not-side_ok-2, planes_short _ _ _ _ _ (λ e. c.if-planes_refusal-ne0.true (c.planes_refusal.ensures ∙ e)))
+pub planes_test-requires-2 : goal.planes_test-requires-2
+planes_test-requires-2 c = short (goal.at.planes_test-requires-2 c).Else-not-side_ok
 
-pub planes_refusal-requires-2 : goal.planes_refusal-requires-2
-planes_refusal-requires-2 c = short (goal.at.planes_refusal-requires-2 c).Else-not-side_ok-2
+pub returns-in_err-planes_test-2 : goal.returns-in_err-planes_test-2
+unfolding run_tests lengths_of refuse ◌then◌
+returns-in_err-planes_test-2 c =
+    rw (sides (goal.at.returns-in_err-planes_test-2 c).Else-not-side_ok, quarter (goal.at.returns-in_err-planes_test-2 c).In_ok-planes_test) (search (rules, err-then))
 
-pub returns-then-planes_refusal-ne0-2 : goal.returns-then-planes_refusal-ne0-2
-unfolding run_tests refuse ◌then◌
-returns-then-planes_refusal-ne0-2 c =
-    rw (sides_passed (goal.at.returns-then-planes_refusal-ne0-2 c).Else-not-side_ok-2, quarter-passed (goal.at.returns-then-planes_refusal-ne0-2 c).Else-planes_refusal-ne0, planes_short _ _ _ _ _ (λ e. c.if-planes_refusal-ne0-2.true (c.planes_refusal-2.ensures ∙ e)))
+pub planes_test-requires-3 : goal.planes_test-requires-3
+planes_test-requires-3 c = short (goal.at.planes_test-requires-3 c).Else-not-side_ok
 
-pub planes_refusal-requires-3 : goal.planes_refusal-requires-3
-planes_refusal-requires-3 c = short (goal.at.planes_refusal-requires-3 c).Else-not-side_ok-2
-
-pub returns-then-planes_refusal-ne0-3 : goal.returns-then-planes_refusal-ne0-3
-unfolding run_tests refuse ◌then◌
-returns-then-planes_refusal-ne0-3 c =
-    rw (sides_passed (goal.at.returns-then-planes_refusal-ne0-3 c).Else-not-side_ok-2, quarter-passed (goal.at.returns-then-planes_refusal-ne0-3 c).Else-planes_refusal-ne0, half-passed (goal.at.returns-then-planes_refusal-ne0-3 c).Else-planes_refusal-ne0-2, planes_short _ _ _ _ _ (λ e. c.if-planes_refusal-ne0-3.true (c.planes_refusal-3.ensures ∙ e)))
+pub returns-in_err-planes_test-3 : goal.returns-in_err-planes_test-3
+unfolding run_tests lengths_of refuse ◌then◌
+returns-in_err-planes_test-3 c =
+    rw (sides (goal.at.returns-in_err-planes_test-3 c).Else-not-side_ok, quarter (goal.at.returns-in_err-planes_test-3 c).In_ok-planes_test, half (goal.at.returns-in_err-planes_test-3 c).In_ok-planes_test-2) (search (rules, err-then))
 
 pub grids_hold-requires : goal.grids_hold-requires
-grids_hold-requires c = short (goal.at.grids_hold-requires c).Else-not-side_ok-2
+grids_hold-requires c = short (goal.at.grids_hold-requires c).Else-not-side_ok
 
 pub returns-then-not-grids_hold : goal.returns-then-not-grids_hold
-unfolding run_tests refuse ◌then◌
-returns-then-not-grids_hold c =
-    rw (sides_passed (goal.at.returns-then-not-grids_hold c).Else-not-side_ok-2, quarter-passed (goal.at.returns-then-not-grids_hold c).Else-planes_refusal-ne0, half-passed (goal.at.returns-then-not-grids_hold c).Else-planes_refusal-ne0-2, sym c.planes_refusal-3.ensures ∙ c.if-planes_refusal-ne0-3.false, failed c.grids_hold.ensures c.if-not-grids_hold.true-raw)
+unfolding run_tests lengths_of refuse ◌then◌
+returns-then-not-grids_hold c = grind (arith, common_steps, fit-of)
 
 pub returns : goal.returns
-unfolding run_tests refuse ◌then◌
-returns c =
-    rw (sides_passed (goal.at.returns c).Else-not-side_ok-2, quarter-passed (goal.at.returns c).Else-planes_refusal-ne0, half-passed (goal.at.returns c).Else-planes_refusal-ne0-2, sym c.planes_refusal-3.ensures ∙ c.if-planes_refusal-ne0-3.false, passed c.grids_hold.ensures c.if-not-grids_hold.false-raw)
+unfolding run_tests lengths_of refuse ◌then◌
+returns c = grind (arith, common_steps, fit-of)
