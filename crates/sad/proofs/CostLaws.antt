@@ -1,5 +1,5 @@
 -- The cost of a candidate by cases, and the bounds that make u32 and u64 enough. Assumes nothing.
-use mathlib.Core.Path.{◌≡◌, sym, ap, ap₂, subst}
+use mathlib.Core.Path.{◌≡◌, ap, ap₂}
 use mathlib.Core.Bool.{Bool, true, false, cond}
 use mathlib.Core.Logic.{◌⊎◌, inl, inr}
 use mathlib.Core.List.{List}
@@ -14,7 +14,7 @@ use Rattle.motion.specs.Limits.{largest_sample}
 use Rattle.motion.specs.Range.{in_range}
 use Rattle.motion.proofs.RateLaws.{rate_v-le}
 use Rattle.sad.specs.Sad.{sad_block}
-use Rattle.sad.specs.Asked.{Inside, largest_block, largest_place, Measured, Lies}
+use Rattle.sad.specs.Asked.{largest_block, Measured, Lies}
 use Rattle.sad.specs.Plane.{org_start, ref_start}
 use Rattle.sad.specs.Cost.{empty_rd, rd_of, sad_at, rd_at, sad_limit}
 use Rattle.sad.proofs.Sums.{Under, block_le, block_same}
@@ -57,12 +57,6 @@ limit_lost cost rate sad reached = omega arith
 
 -- a vector in range, measured from where the two blocks start
 module _ (b : Block) (v : MotionVector) (held : in_range b.range v ≡ true) (s d : ℕ) (org : s ≡ org_start b) (ref : d ≡ ref_start b v) where
-  pub starts_inside : (n m : ℕ) → Lies b n → Lies b m → (Inside n s b.stride b.w b.h × Inside m d b.stride b.w b.h) × ((b.w ≤ largest_block) × (b.h ≤ largest_block) × (b.stride ≤ largest_place))
-  starts_inside n m lo lr =
-      let at-org = subst (λ (s : ℕ). Inside n s b.stride b.w b.h) (sym org) lo.org in
-      let at_ref = subst (λ (d : ℕ). Inside m d b.stride b.w b.h) (sym ref) (lr.ref v held) in
-      ((at-org, at_ref), (lo.measured.wide, lo.measured.high, lo.measured.stride))
-
   pub sad-from : (cur refs : List ℕ) → sad_block cur s refs d b.stride b.w b.h ≡ sad_at b cur refs v
   unfolding sad_at
   sad-from cur refs = ap₂ (λ (s d : ℕ). sad_block cur s refs d b.stride b.w b.h) org ref

@@ -51,10 +51,7 @@ pub fn compute_mv_rd(weight: u32, sad: u32, cand_mv: MotionVector) -> MVCandidat
 pub fn sad_limit(cost: u64, rate: u64) -> u64
     ensures { result ≡ sad_limit cost rate }
 {
-    if cost <= rate {
-        return 0;
-    }
-    (cost - rate - 1) / 256 + 1
+    cost.saturating_sub(rate).div_ceil(256)
 }
 
 // The cost of moving a block by a vector, in range or not.

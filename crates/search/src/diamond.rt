@@ -4,9 +4,9 @@ ghost use Rattle.motion.specs.Asked.{Near};
 ghost use Rattle.sad.specs.Planes.{rd_in};
 ghost use Rattle.search.specs.Diamond.{diamond_best, diamond};
 
-use crate::result::MotionSearchResult;
+use crate::result::{MotionSearchResult, try_pattern};
 use motion::vector::MotionVector;
-use points::patterns::{Pattern, pattern_point};
+use points::patterns::Pattern;
 use sad::planes::BlockPlanes;
 
 // The cheapest of the four points round a centre.
@@ -15,15 +15,7 @@ fn diamond_round(p: &BlockPlanes<'_>, center: MotionVector, radius_log2: u32) ->
     ensures { result ≡ diamond_best (rd_in p.now) radius_log2 center }
 {
     let pattern = Pattern::Diamond(radius_log2);
-    let down = pattern_point(pattern, center, 0);
-    let right = pattern_point(pattern, center, 1);
-    let up = pattern_point(pattern, center, 2);
-    let left = pattern_point(pattern, center, 3);
-    let empty = MotionSearchResult::empty();
-    let first = empty.try_mv(p, down);
-    let second = first.try_mv(p, right);
-    let third = second.try_mv(p, up);
-    third.try_mv(p, left)
+    try_pattern(p, pattern, center, MotionSearchResult::empty())
 }
 
 // Moves by the diamond, first of radius 2 pixels, then of 1, until it finds no cheaper point.
@@ -37,10 +29,9 @@ pub fn fullpel_diamond_search(p: &BlockPlanes<'_>, start: MotionSearchResult) ->
         let best_cand = diamond_round(p, current.mv, diamond_radius_log2);
         if best_cand.rd.cost < current.rd.cost {
             current = best_cand;
+        } else if diamond_radius_log2 == 0 {
+            break;
         } else {
-            if diamond_radius_log2 == 0 {
-                break;
-            }
             diamond_radius_log2 -= 1;
         }
     }

@@ -9,10 +9,10 @@ use mir.ValLaws.{to_z-of_z}
 use Rattle.sad.specs.Plane.{moved, ref_start}
 use Rattle.sad.proofs.Places.{sample_is, place-le, scaled}
 use borrow.Author.Rules.{rules}
-use Rattle.sad.proofs.plane.ref_start.Goals.{After-struct_known-1}
+use Rattle.sad.proofs.plane.ref_start.Goals.{After-place-x}
 use Rattle.sad.proofs.plane.ref_start.Goals as goal
 
-module _ (c : After-struct_known-1) where
+module _ (c : After-place-x) where
   row_fits : SFits w16 c.args.mv.row
   row_fits = search rules
 
@@ -39,18 +39,20 @@ module _ (c : After-struct_known-1) where
       scaled c.place-y.result b.stride (omega (arith, y_is, small)) m.stride
 
 pub overflow_mul-result : goal.overflow_mul-result
-overflow_mul-result c = omega (arith, product c)
+overflow_mul-result c = omega (arith, product (goal.at.overflow_mul-result c).After-place-x)
 
 pub overflow_add-result : goal.overflow_add-result
 overflow_add-result c =
     let b = c.args.b in
     let m = c.requires.0 in
-    omega (arith, product c, x_is c, place-le b.po_x (col-fits c) m.across b.pad m.pad)
+    let placed = (goal.at.overflow_add-result c).After-place-x in
+    omega (arith, product placed, x_is placed, place-le b.po_x (col-fits placed) m.across b.pad m.pad)
 
 pub returns : goal.returns
 unfolding ref_start
 returns c =
     let b = c.args.b in
     let v = c.args.mv in
-    ap₂ (λ (y x : ℕ). y * b.stride + x) (y_is c) (x_is c)
+    let placed = (goal.at.returns c).After-place-x in
+    ap₂ (λ (y x : ℕ). y * b.stride + x) (y_is placed) (x_is placed)
     ∙ sym (sample_is b.stride b.pad (moved b.po_x v.col) (moved b.po_y v.row) c.requires.1.left c.requires.1.up)

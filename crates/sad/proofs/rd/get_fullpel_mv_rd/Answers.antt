@@ -2,7 +2,6 @@
 use mathlib.Core.Path.{◌≡◌, sym, ap, ◌∙◌}
 use mathlib.Core.Bool.{true}
 use Prim.Native.Nat.{ℕ}
-use Rattle.ground.proofs.TestLaws.{passed, failed}
 use Rattle.motion.specs.Range.{in_range}
 use Rattle.sad.specs.Cost.{rd_of}
 use Rattle.sad.proofs.CostLaws.{rd_in, rd_out, sad-from}
@@ -10,13 +9,13 @@ use Rattle.sad.proofs.rd.get_fullpel_mv_rd.Goals.{Else-not-holds}
 use Rattle.sad.proofs.rd.get_fullpel_mv_rd.Goals as goal
 
 held : (c : Else-not-holds) → let p = c.args.p.now in in_range p.block.range c.args.cand_mv ≡ true
-held c = passed c.holds.ensures c.if-not-holds.false-raw
+held c = cc
 
 pub returns-then-not-holds : goal.returns-then-not-holds
 returns-then-not-holds c =
     let p = c.args.p.now in
     c.empty.ensures
-    ∙ sym (rd_out p.block p.cur.now p.reference.now c.args.cand_mv (failed c.holds.ensures c.if-not-holds.true-raw))
+    ∙ sym (rd_out p.block p.cur.now p.reference.now c.args.cand_mv (cc))
 
 pub returns : goal.returns
 returns c =

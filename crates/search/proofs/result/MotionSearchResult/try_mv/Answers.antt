@@ -3,13 +3,13 @@
 use native.Mathlib.Nat.{mul-le-mul_right}
 use Rattle.motion.proofs.RateLaws.{rate_v-le}
 use mathlib.Core.Path.{◌≡◌, sym, ap, ◌∙◌}
-use mathlib.Core.Bool.{true}
+use mathlib.Core.Bool.{true, false}
 use mathlib.Core.Logic.{⊎_elim}
 use Prim.Native.Nat.{ℕ, ◌+◌, ◌*◌, ◌≤◌, min}
 use native.Mathlib.Omega.{arith}
 use borrow.Author.Tests.{ltb-true, ltb-false}
 use lib.Dec.{ltb}
-use Rattle.ground.proofs.TestLaws.{passed, failed, tested}
+use Rattle.ground.proofs.TestLaws.{tested}
 use Rattle.motion.specs.Range.{in_range}
 use Rattle.sad.specs.declared.rd.MVCandidateRD.{MVCandidateRD}
 use Rattle.sad.specs.Cost.{rd_of, sad_at}
@@ -23,7 +23,7 @@ use Rattle.search.proofs.result.MotionSearchResult.try_mv.Goals as goal
 
 module _ (c : Else-not-holds) where
   in_range_lem : in_range c.args.p.now.block.range c.args.cand_mv ≡ true
-  in_range_lem = passed c.holds.ensures c.if-not-holds.false-raw
+  in_range_lem = cc
 
   abbrev sum : ℕ
   sum =
@@ -55,7 +55,7 @@ given c =
 pub returns-then-not-holds : goal.returns-then-not-holds
 returns-then-not-holds c =
     let a = c.args in
-    let out = failed c.holds.ensures c.if-not-holds.true-raw in
+    let out : in_range a.p.now.block.range a.cand_mv ≡ false = cc in
     sym (one-most (rd_in a.p.now) a.self a.cand_mv (rd_out a.p.now.block a.p.now.cur.now a.p.now.reference.now a.cand_mv out) (omega arith))
 
 pub returns-then-limit-eq0 : goal.returns-then-limit-eq0
