@@ -1,39 +1,20 @@
 -- Laws of a record that starts at some place among bytes: its mark, and what it consists of. Assumes nothing.
 use mathlib.Core.Path.{◌≡◌, sym, ap, ap₂, ◌∙◌}
-use mathlib.Core.Bool.{Bool, true, false, ◌&&◌}
+use mathlib.Core.Bool.{Bool, true, ◌&&◌}
 use mathlib.Core.List.{List, ◌∷◌, ◌++◌}
 use Prim.Native.Nat.{ℕ, suc, ◌+◌, ◌≤◌}
 use native.Mathlib.Omega.{arith}
 use lib.ListN.{length, get_or, take, drop, length-drop, take-append-drop}
 use lib.Seq.{slice, drop-cons, drop-drop, length-take-le, take_at}
-use mir.Syntax.{w8}
-use mir.Val.{Fits}
-use Rattle.ground.proofs.TestLaws.{both, not_so}
+use Rattle.ground.proofs.TestLaws.{both}
 use Rattle.ground.proofs.ListLaws.{take-drop}
 use Rattle.records.specs.Forms.{mark, cell_bytes}
-use Rattle.records.specs.Numbers.{number_of}
-use Rattle.records.proofs.NumberLaws.{two_bytes}
 use Rattle.gridfile.specs.Reading.{marked}
-use Rattle.gridfile.proofs.TakenLaws.{first_byte, second-byte, first-right, second-right}
+use Rattle.gridfile.proofs.TakenLaws.{first_byte, second-byte}
 
 -- whether it starts with the mark
 abbrev pub marked_at : List ℕ → ℕ → Bool
 marked_at bytes p = marked mark 0 (get_or bytes p 0) && marked mark 1 (get_or bytes (p + 1) 0)
-
--- both bytes at once
-module _ (bytes : List ℕ) (p n : ℕ) (fits : (i : ℕ) → Fits w8 (get_or bytes i 0)) (there : p + 2 ≤ length bytes) (e : n ≡ number_of (slice p (p + 2) bytes)) where
-  pub mark-holds : n ≡ 0x474C → marked_at bytes p ≡ true
-  mark-holds h =
-      let sum = two_bytes bytes p there in
-      let first = fits p in
-      let second = fits (p + 1) in
-      ap₂ ◌&&◌ (first-right _ (omega (arith, e, sum, first, second))) (second-right _ (omega (arith, e, sum, first, second)))
-
-  pub mark-fails : (n ≡ 0x474C → ⊥) → marked_at bytes p ≡ false
-  mark-fails h =
-      not_so (marked_at bytes p) (λ ok.
-      let halves = both (marked mark 0 (get_or bytes p 0)) (marked mark 1 (get_or bytes (p + 1) 0)) ok in
-      h (omega (arith, e, two_bytes bytes p there, first_byte _ halves.0, second-byte _ halves.1)))
 
 -- a cell's record all of whose bytes are there
 module _ (bytes : List ℕ) (p : ℕ) (there : p + cell_bytes ≤ length bytes) where

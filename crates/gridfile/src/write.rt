@@ -1,5 +1,6 @@
-ghost use Rattle.std.specs.Prelude.{◌≡◌, ◌%◌, ◌≤◌, length};
+ghost use Rattle.std.specs.Prelude.{◌≡◌, ◌/◌, ◌%◌, ◌≤◌, IfOk, length};
 ghost use Rattle.std.proofs.lemmas.List.Edits.{sets};
+ghost use Rattle.motion.specs.Limits.{cell_side};
 ghost use Rattle.grid.specs.Grid.{room};
 ghost use Rattle.grid.specs.Lent.{lent};
 ghost use Rattle.refusal.specs.Kinds.{code_of};
@@ -7,6 +8,7 @@ ghost use Rattle.records.specs.Forms.{one_sad, plain_forms, header_bytes};
 ghost use Rattle.records.specs.Records.{file_bytes};
 ghost use Rattle.gridfile.specs.Writing.{cell_records, write_refusal, written_for, write_answer, written_file};
 
+use crate::extent::Extent;
 use grid::lent::GridRef;
 use motion::limits::CELL_SIDE;
 use records::limits::{CELL_BYTES, HEADER_BYTES};
@@ -39,9 +41,10 @@ impl From<Result<usize, Refusal>> for Written {
     }
 }
 
-// The tests behind refusals 1, 5 and 13, in this order.
-fn write_refusal(width: usize, height: usize, room: usize, bytes: usize) -> Result<(), Refusal>
-    ensures { code_of result ≡ write_refusal width height room bytes }
+// Columns and rows of a frame's grid, or refusals 1, 5 and 13, in this order.
+fn extent_of(width: usize, height: usize, room: usize, bytes: usize) -> Result<Extent, Refusal>
+    ensures number { code_of result ≡ write_refusal width height room bytes }
+    ensures sides { IfOk result (λ extent. (extent.columns ≡ width / cell_side) × (extent.rows ≡ height / cell_side)) }
 {
     if !side_ok(width) || !side_ok(height) {
         return Err(Refusal::Side);
@@ -49,10 +52,14 @@ fn write_refusal(width: usize, height: usize, room: usize, bytes: usize) -> Resu
     if !grid_ok(width, height, room) {
         return Err(Refusal::Grid);
     }
-    if bytes < HEADER_BYTES + CELL_BYTES * ((width / CELL_SIDE) * (height / CELL_SIDE)) {
+    let extent = Extent {
+        columns: width / CELL_SIDE,
+        rows: height / CELL_SIDE,
+    };
+    if bytes < extent.file_bytes() {
         return Err(Refusal::Room);
     }
-    Ok(())
+    Ok(extent)
 }
 
 // The records of the first `count` cells, behind the header, two a turn: one a turn took up to 1.4 of the time.
@@ -78,11 +85,8 @@ pub fn write_grid(
     ensures answer { written_for result ≡ write_answer width height (lent grid.now) file.old }
     ensures file_after { file.new ≡ written_file width height (lent grid.now) file.old }
 {
-    write_refusal(width, height, grid.room(), file.len())?;
-    let columns = width / CELL_SIDE;
-    let rows = height / CELL_SIDE;
-    let count = columns * rows;
-    put_header(columns, rows, file);
-    put_cells(count, grid, file);
-    Ok(HEADER_BYTES + CELL_BYTES * count)
+    let extent = extent_of(width, height, grid.room(), file.len())?;
+    put_header(extent.columns, extent.rows, file);
+    put_cells(extent.cells(), grid, file);
+    Ok(extent.file_bytes())
 }
