@@ -34,7 +34,7 @@ module _ (rd : CostOf) (p : MotionEstimationSubsets) where
   at_last g h = rw (le-ltb near.rd.sad p.threshold g, le-ltb kept.rd.sad p.threshold h)
 
 abbrev cost : Start → CostOf
-cost c = rd_in c.args.self.now.planes
+cost c = rd_in c.args.self.planes
 
 near-is : (c : After-try_cands-near) → c.try_cands-near.result ≡ near (cost (goal.at.After-try_cands-near c).Start) c.args.p.now
 near-is c =
@@ -64,7 +64,7 @@ returns-then-best-p c =
 
 pub uneven_multi_hex_search-requires : goal.uneven_multi_hex_search-requires
 uneven_multi_hex_search-requires c =
-    let s = c.args.self.now in
+    let s = c.args.self in
     let loose = loose_extensive s.planes.block s.planes.cur.now s.planes.reference.now s.zero_in_range c.args.p.now in
     subst (Ranged s.planes.block) (sym (kept-is (goal.at.uneven_multi_hex_search-requires c).After-move_to-best)) loose.holds.in_range_lem
 

@@ -12,7 +12,7 @@ use Rattle.estimate.proofs.searched.SearchedBlock.short_search.Goals.{Start, Aft
 use Rattle.estimate.proofs.searched.SearchedBlock.short_search.Goals as goal
 
 abbrev cost : Start → CostOf
-cost c = rd_in c.args.self.now.planes
+cost c = rd_in c.args.self.planes
 
 -- the centre
 abbrev middle : Start → MotionSearchResult
@@ -43,22 +43,22 @@ best_is c =
 
 pub try_mvs-near-requires : goal.try_mvs-near-requires
 try_mvs-near-requires c =
-    let s = c.args.self.now in
+    let s = c.args.self in
     let loose = loose_centre s.planes.block s.planes.cur.now s.planes.reference.now s.zero_in_range c.args.p.now in
     subst (Honest (rd_in s.planes)) (sym (middle-is (goal.at.try_mvs-near-requires c).After-move_to-middle)) loose.holds.own
 
 pub try_mvs-best-requires : goal.try_mvs-best-requires
 try_mvs-best-requires c =
-    let s = c.args.self.now in
+    let s = c.args.self in
     let loose = loose_near s.planes.block s.planes.cur.now s.planes.reference.now s.zero_in_range c.args.p.now in
     subst (Honest (rd_in s.planes)) (sym (near-is (goal.at.try_mvs-best-requires c).After-try_mvs-near)) loose.holds.own
 
 pub fullpel_diamond_search-requires : goal.fullpel_diamond_search-requires
 fullpel_diamond_search-requires c =
-    let s = c.args.self.now in
+    let s = c.args.self in
     let kept = loose_short s.planes.block s.planes.cur.now s.planes.reference.now s.zero_in_range c.args.p.now in
     subst (Ranged s.planes.block) (sym (best_is (goal.at.fullpel_diamond_search-requires c).After-try_mvs-best)) kept.holds.in_range_lem
 
 pub returns : goal.returns
 unfolding short_search
-returns c = c.fullpel_diamond_search.ensures ∙ ap (diamond (rd_in c.args.self.now.planes)) (best_is (goal.at.returns c).After-try_mvs-best)
+returns c = c.fullpel_diamond_search.ensures ∙ ap (diamond (rd_in c.args.self.planes)) (best_is (goal.at.returns c).After-try_mvs-best)

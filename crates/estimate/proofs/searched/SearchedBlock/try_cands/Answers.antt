@@ -8,13 +8,13 @@ use Rattle.estimate.proofs.searched.SearchedBlock.try_cands.Goals as goal
 
 pub try_mvs-best-requires : goal.try_mvs-best-requires
 try_mvs-best-requires c =
-    let p = c.args.self.now.planes in
-    rw c.empty.ensures (loose_empty p.block p.cur.now p.reference.now c.args.self.now.zero_in_range).holds.own
+    let p = c.args.self.planes in
+    rw c.empty.ensures (loose_empty p.block p.cur.now p.reference.now c.args.self.zero_in_range).holds.own
 
 pub fullpel_diamond_search-requires : goal.fullpel_diamond_search-requires
 fullpel_diamond_search-requires c =
-    let p = c.args.self.now.planes in
-    let first = loose_empty p.block p.cur.now p.reference.now c.args.self.now.zero_in_range in
+    let p = c.args.self.planes in
+    let first = loose_empty p.block p.cur.now p.reference.now c.args.self.zero_in_range in
     let kept = loose_mvs p.block p.cur.now p.reference.now empty_result c.args.mvs.now (length c.args.mvs.now) first in
     rw (c.try_mvs-best.ensures, c.empty.ensures) kept.holds.in_range_lem
 

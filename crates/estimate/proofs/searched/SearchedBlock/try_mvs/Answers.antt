@@ -14,13 +14,13 @@ use Rattle.estimate.proofs.searched.SearchedBlock.try_mvs.Goals as goal
 pub loop-mv-init : goal.loop-mv-init
 loop-mv-init c =
     record {
-      tried = sym (each_none (rd_in c.args.self.now.planes) c.args.current (λ k. get_or c.args.mvs.now k zero_v));
+      tried = sym (each_none (rd_in c.args.self.planes) c.args.current (λ k. get_or c.args.mvs.now k zero_v));
       honest = c.requires;
     }
 
 pub loop-mv-preserved : goal.loop-mv-preserved
 loop-mv-preserved c =
-    let rd = rd_in c.args.self.now.planes in
+    let rd = rd_in c.args.self.planes in
     let vs : ℕ → MotionVector = λ k. get_or c.args.mvs.now k zero_v in
     let tried : c.try_unless_best-best.result ≡ try_one rd c.loop-mv.best (vs c.loop-mv.mv-index) = c.try_unless_best-best.ensures in
     record {
@@ -33,4 +33,4 @@ unfolding try_mvs
 returns c =
     let done : c.loop-mv.mv-index ≡ length c.args.mvs.now = omega arith in
     c.loop-mv.invariant.tried
-    ∙ ap (λ (n : ℕ). try_each (rd_in c.args.self.now.planes) c.args.current n (λ k. get_or c.args.mvs.now k zero_v)) done
+    ∙ ap (λ (n : ℕ). try_each (rd_in c.args.self.planes) c.args.current n (λ k. get_or c.args.mvs.now k zero_v)) done
