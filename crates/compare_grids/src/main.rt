@@ -12,8 +12,9 @@
 mod lines;
 mod words;
 
-use compare::calls::compare_refusal;
+use compare::calls::cells_of_both;
 use given::arguments::argument_count;
+use gridfile::read::Shape;
 use lines::compare;
 use passes::files::check_named;
 use passes::output::write_refused;
@@ -29,19 +30,23 @@ fn main(rt: HostRuntime) {
         );
         return;
     }
-    let first = check_named(&rt, 1);
-    if !first.read {
+    let Some(first) = check_named(&rt, 1) else {
         return;
-    }
-    let second = check_named(&rt, 2);
-    if !second.read {
+    };
+    let Some(second) = check_named(&rt, 2) else {
         return;
-    }
-    let code = compare_refusal(first.shape, MOST_FILE_CELLS, second.shape, MOST_FILE_CELLS);
-    if code != 0 {
+    };
+    if let Err(code) = cells_of_both(
+        Shape::from(first.extent),
+        MOST_FILE_CELLS,
+        Shape::from(second.extent),
+        MOST_FILE_CELLS,
+    ) {
         write_refused(&rt, code);
-        say_refused(&rt, first.shape.code, second.shape.code);
+        say_refused(&rt, first, second);
         return;
     }
-    compare(&rt, first, second);
+    if let Ok(extent) = first.extent {
+        let _ = compare(&rt, extent, first.sum, second.sum);
+    }
 }

@@ -1,4 +1,3 @@
 -- What programs over grid files are promised of a pass over a file.
 pub mod Again
-pub mod Shaped
 pub mod Sums

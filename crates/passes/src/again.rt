@@ -1,85 +1,65 @@
-ghost use Rattle.std.specs.Prelude.{◌≡◌, true, ◌*◌, ◌≤◌, length};
+ghost use Rattle.std.specs.Prelude.{◌≡◌, ◌*◌, ◌≤◌, IfSome, IsSome, length};
 ghost use Rattle.records.specs.Forms.{cell_bytes};
-ghost use Rattle.passes.specs.Again.{all_marked, Loaded};
+ghost use Rattle.passes.specs.Again.{Loaded};
 
 use crate::sums::summed;
-use crate::words::say_changed;
-use given::files::read_full;
-use records::limits::{CELL_BYTES, HEADER_BYTES, MARK};
-use records::numbers::get_16;
+use crate::words::{or_say, say_changed};
+use given::arguments::{NAME, argument};
+use given::files::{open_named, read_full};
+use gridfile::read::marks_hold;
+use records::limits::{CELL_BYTES, HEADER_BYTES};
 use std::fs::File;
 
 // As many cells as are read before their lines are written.
 pub const BLOCK: usize = 256;
 
-// A file that is gone through again: whether its next bytes were there, and the sum over all so far.
-#[derive(Clone, Copy)]
+// A file that was checked and is gone through again, by the argument that names it, and the sum over the bytes so far.
+#[derive(Drop)]
 pub struct Again {
-    pub there: bool,
+    file: File,
+    which: usize,
     pub sum: u64,
 }
 
-// The sum over a header, which was looked at when its file was checked.
-pub fn header_sum(file: &mut File) -> u64 {
-    let mut header = [0u8; HEADER_BYTES];
-    read_full(file, &mut header);
-    summed(0, &header, HEADER_BYTES)
-}
-
-// Whether each record of a block starts with the mark.
-fn marked(block: &[u8], count: usize) -> bool
-    requires { cell_bytes * count ≤ length block.now }
-    ensures { result ≡ all_marked block.now count }
-{
-    let mut i = 0;
-    while i < count {
-        if get_16(block, CELL_BYTES * i) != MARK {
-            return false;
-        }
-        i += 1;
+impl Again {
+    // The file with its header gone by; none, with words, where it can't be opened.
+    pub fn open(rt: &HostRuntime, which: usize) -> Option<Again> {
+        let mut room = [0u8; NAME];
+        let name = argument(rt, which, &mut room).unwrap_or(b"");
+        let mut file = or_say(rt, name, open_named(rt, name))?;
+        let mut header = [0u8; HEADER_BYTES];
+        read_full(&mut file, &mut header);
+        let sum = summed(0, &header);
+        Some(Again { file, which, sum })
     }
-    true
-}
 
-// The next records of a file; words where they are no longer there.
-pub fn load(
-    rt: &HostRuntime,
-    file: &mut File,
-    which: usize,
-    sum: u64,
-    count: usize,
-    block: &mut [u8],
-) -> Again
-    requires { cell_bytes * count ≤ length block.old }
-    ensures block_len_unchanged { length block.new ≡ length block.old }
-    ensures loaded { result.there ≡ true → Loaded sum count block.new result }
-{
-    let n = CELL_BYTES * count;
-    // A block that is not full ends where the file does.
-    let got = read_full(file, block);
-    if got == n {
-        if marked(&*block, count) {
-            return Again {
-                there: true,
-                sum: summed(sum, &*block, n),
-            };
+    // The next records; none, with words, where they are no longer there.
+    #[tactic(auto, unfolding(crate::specs::Again::all_marked))]
+    pub fn load(&mut self, rt: &HostRuntime, count: usize, block: &mut [u8]) -> Option<()>
+        requires { cell_bytes * count ≤ length block.old }
+        ensures block_len_unchanged { length block.new ≡ length block.old }
+        ensures loaded { IsSome result → Loaded self.old.sum count block.new self.new.sum }
+    {
+        let n = CELL_BYTES * count;
+        // A block that is not full ends where the file does.
+        let got = read_full(&mut self.file, block);
+        if got == n && marks_hold(block, count) {
+            self.sum = summed(self.sum, &block[..n]);
+            return Some(());
         }
+        say_changed(rt, self.which);
+        None
     }
-    say_changed(rt, which);
-    Again { there: false, sum }
-}
 
-// Whether a file has no byte more, and its bytes are those that were checked; words where not.
-pub fn same_at_end(rt: &HostRuntime, file: &mut File, which: usize, sum: u64, checked: u64) -> bool
-    ensures { result ≡ true → sum ≡ checked }
-{
-    let mut byte = [0u8; 1];
-    let more = read_full(file, &mut byte);
-    if more == 0 {
-        if sum == checked {
-            return true;
+    // That the file has no byte more, and its bytes are those that were checked; none, with words, where not.
+    pub fn same_at_end(&mut self, rt: &HostRuntime, checked: u64) -> Option<()>
+        ensures { IsSome result → self.old.sum ≡ checked }
+    {
+        let more = read_full(&mut self.file, &mut [0u8; 1]);
+        if more == 0 && self.sum == checked {
+            return Some(());
         }
+        say_changed(rt, self.which);
+        None
     }
-    say_changed(rt, which);
-    false
 }

@@ -1,22 +1,13 @@
-ghost use Rattle.std.specs.Prelude.{◌≡◌, ◌≤◌, ◌<◌, length, take};
+ghost use Rattle.std.specs.Prelude.{◌≡◌};
 ghost use Rattle.passes.specs.Sums.{sum_over};
 
-fn wide(byte: u8) -> u64
-    ensures { (result ≡ byte) × (result < 256) }
-{
-    byte as u64
-}
-
-// The first n bytes more of a file, which nearly always give another sum where they are others.
-pub(crate) fn summed(sum: u64, bytes: &[u8], n: usize) -> u64
-    requires { n ≤ length bytes.now }
-    ensures { result ≡ sum_over sum (take n bytes.now) }
+// The sum over more bytes of a file, which is nearly always another where they are others.
+pub(crate) fn summed(sum: u64, bytes: &[u8]) -> u64
+    ensures { result ≡ sum_over sum bytes.now }
 {
     let mut next = sum;
-    let mut i = 0;
-    while i < n {
-        next = (next % 0x1_0000_0000) * 16_777_619 + wide(bytes[i]);
-        i += 1;
+    for byte in bytes {
+        next = (next % 0x1_0000_0000) * 16_777_619 + u64::from(*byte);
     }
     next
 }

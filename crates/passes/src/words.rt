@@ -1,4 +1,8 @@
-use given::arguments::{NAME, put_argument};
+ghost use Rattle.std.specs.Prelude.{◌≡◌, IfSome, Ok};
+
+use given::arguments::{NAME, argument};
+use refusal::kinds::Refusal;
+use std::io;
 use std::io::Error;
 
 // Standard error: what a person reads.
@@ -19,42 +23,35 @@ fn say_error(rt: &HostRuntime, error: Error) {
     }
 }
 
-// What failed, and why.
-pub(crate) fn say_failed(rt: &HostRuntime, what: &[u8], error: Error) {
-    say(rt, what);
-    say(rt, b": ");
-    say_error(rt, error);
-    say(rt, b"\n");
+// What was tried, done; none, with words about what failed and why.
+pub(crate) fn or_say<T: Drop>(rt: &HostRuntime, what: &[u8], tried: io::Result<T>) -> Option<T>
+    ensures { IfSome result (λ done. tried ≡ Ok done) }
+{
+    match tried {
+        Ok(done) => Some(done),
+        Err(error) => {
+            say(rt, what);
+            say(rt, b": ");
+            say_error(rt, error);
+            say(rt, b"\n");
+            None
+        }
+    }
 }
 
 // The name that an argument is.
 pub fn say_name(rt: &HostRuntime, which: usize) {
-    let mut name = [0u8; NAME];
-    let letters = put_argument(rt, which, &mut name);
-    say(rt, &name[..letters]);
+    let mut room = [0u8; NAME];
+    say(rt, argument(rt, which, &mut room).unwrap_or(b""));
 }
 
 // A file that was checked is no longer the same.
-pub fn say_changed(rt: &HostRuntime, which: usize) {
+pub(crate) fn say_changed(rt: &HostRuntime, which: usize) {
     say_name(rt, which);
     say(rt, b": changed while it was read\n");
 }
 
-// Which file was refused, and what the refusal means.
-pub fn say_meaning(rt: &HostRuntime, which: usize, number: u32) {
-    say_name(rt, which);
-    match number {
-        10 => say(
-            rt,
-            b": refused 10: a record does not start with the mark 4C 47\n",
-        ),
-        11 => say(
-            rt,
-            b": refused 11: the file is too short or too long for what its header says\n",
-        ),
-        _ => say(
-            rt,
-            b": refused 12: the header says an odd number of columns or rows\n",
-        ),
-    }
+// A refusal's number, and what it means.
+pub fn say_meaning(rt: &HostRuntime, refusal: Refusal) {
+    let _ = eprintln!(rt; ": refused {}: {refusal}", refusal.number());
 }

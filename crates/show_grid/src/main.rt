@@ -15,22 +15,24 @@ use given::arguments::argument_count;
 use lines::show;
 use passes::files::check_named;
 use passes::output::write_refused;
-use passes::words::{say, say_meaning};
+use passes::words::{say, say_meaning, say_name};
 
 fn main(rt: HostRuntime) {
     if argument_count(&rt) != 2 {
         say(&rt, b"expected a grid file: show_grid FILE\n");
         return;
     }
-    let file = check_named(&rt, 1);
-    if !file.read {
+    let Some(file) = check_named(&rt, 1) else {
         return;
+    };
+    match file.extent {
+        Ok(extent) => {
+            let _ = show(&rt, extent, file.sum);
+        }
+        Err(refusal) => {
+            write_refused(&rt, refusal.number());
+            say_name(&rt, 1);
+            say_meaning(&rt, refusal);
+        }
     }
-    let code = file.shape.code;
-    if code != 0 {
-        write_refused(&rt, code);
-        say_meaning(&rt, 1, code);
-        return;
-    }
-    show(&rt, file);
 }

@@ -3,7 +3,6 @@ use mathlib.Core.Path.{◌≡◌, refl, sym, ap, ap₂, ◌∙◌}
 use mathlib.Core.List.{List, [], ◌∷◌, ◌++◌}
 use Prim.Native.Nat.{ℕ, ◌+◌, ◌<◌}
 use native.Mathlib.Numerals.{add-one}
-use native.Mathlib.Omega.{arith}
 use lib.ListN.{length, get_or, take}
 use lib.Seq.{take-suc}
 use Rattle.passes.specs.Sums.{sum_with, sum_over}
@@ -20,11 +19,12 @@ over_more : (bytes : List ℕ) (sum i : ℕ) → i < length bytes → sum_over s
 over_more bytes sum i more =
     ap (λ (n : ℕ). sum_over sum (take n bytes)) (add-one i) ∙ ap (sum_over sum) (take-suc bytes i 0 more) ∙ over_last (take i bytes) sum (get_or bytes i 0)
 
-pub loop-i-init : goal.loop-i-init
+pub loop-byte-init : goal.loop-byte-init
 unfolding sum_over
-loop-i-init c = (omega arith, refl)
+loop-byte-init c = refl
 
-pub loop-i-preserved : goal.loop-i-preserved
+pub loop-byte-preserved : goal.loop-byte-preserved
 unfolding sum_with
-loop-i-preserved c =
-    (omega arith, ap₂ sum_with c.loop-i.invariant.1 c.wide.ensures.0 ∙ sym (over_more c.args.bytes.now c.args.sum c.loop-i.i (omega arith)))
+loop-byte-preserved c =
+    ap₂ sum_with c.loop-byte.invariant c.from.ensures
+    ∙ sym (over_more c.args.bytes.now c.args.sum c.loop-byte.byte-index c.loop-byte-test.true)

@@ -13,7 +13,7 @@ use Rattle.held.specs.declared.state.Reader.{Reader}
 use Rattle.held.specs.Held.{reader_of, state_of}
 use Rattle.held.proofs.HeldLaws.{sound_of}
 use Rattle.reader.specs.Calls.{ended_from, end_reader}
-use Rattle.passes.proofs.files.shape_at_end.Goals as goal
+use Rattle.passes.proofs.files.extent_at_end.Goals as goal
 
 module _ (r : Reader) where
   by : (t : Bool) → eqb (ended (state_of r)) 0 ≡ t → (reader_of (cond t (state_of r) (refused_at (state_of r) (ended (state_of r))))).code ≡ 0 → (0 < (reader_of (cond t (state_of r) (refused_at (state_of r) (ended (state_of r))))).columns) × ((reader_of (cond t (state_of r) (refused_at (state_of r) (ended (state_of r))))).columns ≤ 256) × ((reader_of (cond t (state_of r) (refused_at (state_of r) (ended (state_of r))))).rows ≤ 256)
@@ -29,10 +29,12 @@ module _ (r : Reader) where
   unfolding end_reader ended_from
   at-end = by (eqb (ended (state_of r)) 0) refl
 
-pub returns : goal.returns
-returns c z =
+pub invariant_of-result : goal.invariant_of-result
+invariant_of-result c =
     let is = c.lockdapple_reader_end-last.ensures in
-    let ends = at-end c.args.reader (sym (ap (λ (r : Reader). r.code) is) ∙ z) in
+    let ends = at-end c.args.reader (sym (ap (λ (r : Reader). r.code) is) ∙ c.in-0.is) in
     let columns = ap (λ (r : Reader). r.columns) is in
-    let rows = ap (λ (r : Reader). r.rows) is in
-    (omega arith, omega arith, omega arith)
+    let rows = ap (λ (r : Reader). r.rows) is in record {
+      wide = (omega arith, omega arith);
+      high = (c.if-last-gt0.true, omega arith);
+    }
