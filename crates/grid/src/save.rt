@@ -1,6 +1,6 @@
 ghost use Rattle.std.specs.Prelude.{◌≡◌, ◌+◌, ◌/◌, ◌≤◌, ◌<◌, min, length};
 ghost use Rattle.motion.specs.Limits.{largest_side, cell_side};
-ghost use Rattle.grid.specs.Grid.{grid_of, Held};
+ghost use Rattle.grid.specs.Grid.{Held};
 ghost use Rattle.grid.specs.Save.{up_to, save_where, save_block};
 ghost use Rattle.grid.specs.Lent.{lent_mut, SameBuffers};
 
@@ -86,24 +86,4 @@ impl GridMut<'_> {
             self.save_row(from, to, stats);
         }
     }
-}
-
-// The same on three buffers.
-pub fn save_me_stats(
-    width: usize,
-    height: usize,
-    mv_size: usize,
-    bx: usize,
-    by: usize,
-    stats: MEStats,
-    rows: &mut [i16],
-    cols: &mut [i16],
-    sads: &mut [u32],
-)
-    requires inside { (width ≤ largest_side) × (height ≤ largest_side) × (mv_size ≤ largest_side) × (bx < width / cell_side) × (by < height / cell_side) }
-    requires held { Held width height (grid_of rows.old cols.old sads.old) }
-    ensures { grid_of rows.new cols.new sads.new ≡ save_block width height mv_size bx by stats (grid_of rows.old cols.old sads.old) }
-{
-    let mut grid = GridMut { rows, cols, sads };
-    grid.save_me_stats(width, height, mv_size, bx, by, stats);
 }
