@@ -150,8 +150,6 @@ pub fn get_subset_predictors(
         bx,
         by,
     };
-    let centre = (level != 4).then_some(spot.centre_cell());
-    let m = scale.centre_of(centre, grid);
     let b = scale.subset_of(spot.cells_b(level).as_slice(), grid);
     let c = match prev {
         Some(prev) => scale.subset_of(spot.cells_c().as_slice(), &prev),
@@ -161,6 +159,9 @@ pub fn get_subset_predictors(
             least: u32::MAX,
         },
     };
+    // After B and C: before them it costs a flat frame 1 % more instructions.
+    let centre = (level != 4).then_some(spot.centre_cell());
+    let m = scale.centre_of(centre, grid);
     let area = (block.w * block.h) as u32;
     let min_sad = minimum_sad(b.least.min(c.least.min(m.normalized_sad)), area);
     let subset_b = b.mvs;

@@ -77,8 +77,9 @@ impl Spot {
     pub fn cells_c(self) -> ArrayVec<usize, 5>
         ensures { (level : ℕ) → self.mv_size ≡ (level_of level).mv_size → result.items ≡ cells_c self.width self.height level self.bx self.by true }
     {
+        let middle = self.centre_cell();
         let mut cells = self.neighbours(true, true);
-        cells.push(self.centre_cell());
+        cells.push(middle);
         cells
     }
 }
