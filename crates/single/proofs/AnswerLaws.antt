@@ -1,28 +1,17 @@
 -- An answer is the first refusal, and what was found where there is none. Assumes nothing.
-use mathlib.Core.Path.{◌≡◌, refl, sym, ap, ◌∙◌}
-use mathlib.Core.Bool.{Bool, true, false}
-use Prim.Native.Nat.{ℕ, zero, suc}
+use mathlib.Core.Path.{◌≡◌, sym, ap, ◌∙◌}
+use Prim.Native.Nat.{ℕ}
 use native.Mathlib.Omega.{arith}
-use borrow.Author.Tests.{eq-eqb, ne_eqb}
+use borrow.Author.Tests.{ne_eqb}
 use Rattle.refusal.specs.declared.kinds.Refusal.{Refusal}
 use Rattle.refusal.specs.Kinds.{number_of}
-use Rattle.refusal.specs.Refusals.{refuse, ◌then◌}
 use Rattle.refusal.proofs.KindsLaws.{number-some}
 use Rattle.predict.specs.declared.predictors.MotionEstimationSubsets.{MotionEstimationSubsets}
 use Rattle.single.specs.declared.found.Found.{Found}
 use Rattle.single.specs.Found.{refused, answer}
 use Rattle.single.specs.Predicting.{refused_predictors, predictors_with}
 
-pub refuses_first : (n later : ℕ) (f : Found) → (n ≡ 0 → ⊥) → answer (n then later) f ≡ refused n
-unfolding answer ◌then◌
-refuses_first zero later f h = absurd (h refl)
-refuses_first (suc n) later f h = rw (ne_eqb (suc n) 0 h)
-
-pub refuses_later : (n later : ℕ) (f : Found) → n ≡ 0 → answer (n then later) f ≡ answer later f
-unfolding ◌then◌
-refuses_later n later f e = ap (λ (m : ℕ). answer (m then later) f) e
-
-pub refuses : (n : ℕ) (f : Found) → (n ≡ 0 → ⊥) → answer n f ≡ refused n
+refuses : (n : ℕ) (f : Found) → (n ≡ 0 → ⊥) → answer n f ≡ refused n
 unfolding answer
 refuses n f h = rw (ne_eqb n 0 h)
 
@@ -33,20 +22,6 @@ refused-is r n f e = let some = number-some r in ap refused e ∙ sym (refuses n
 pub done-is : (n : ℕ) (f : Found) → 0 ≡ n → f ≡ answer n f
 unfolding answer
 done-is n f e = rw (← e)
-
--- the same of a last test
-pub refuses_at : (n : ℕ) (t : Bool) (f : Found) → t ≡ false → answer (refuse (suc n) t) f ≡ refused (suc n)
-unfolding refuse
-refuses_at n t f e =
-    ap (λ (s : Bool). answer (refuse (suc n) s) f) e ∙ refuses (suc n) f (λ h. absurd (omega arith))
-
-pub finds : (n : ℕ) (t : Bool) (f : Found) → t ≡ true → answer (refuse n t) f ≡ f
-unfolding answer refuse
-finds n t f e = rw e
-
-pub answers : (n : ℕ) (f : Found) → n ≡ 0 → answer n f ≡ f
-unfolding answer
-answers n f e = rw (eq-eqb n 0 e)
 
 -- the record of predictors of a number that is not 0
 pub predictors-refused : {code : ℕ} (number : ℕ) (p : MotionEstimationSubsets) → code ≡ number → (code ≡ 0 → ⊥) → refused_predictors code ≡ predictors_with number p
