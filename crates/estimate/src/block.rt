@@ -89,7 +89,7 @@ pub fn estimate_motion(
         prev,
         grid,
     );
-    let best = SearchedBlock { planes }.full_pixel_me(inputs.level, &p);
+    let best = SearchedBlock { planes }.full_pixel_me(inputs.level, p);
     stats_of(row.ssdec, planes.block.w, planes.block.h, best)
 }
 

@@ -20,7 +20,7 @@ pub(crate) struct SearchedBlock<'a> {
     ghost zero_in_range: { in_range planes.block.range zero_v ≡ true },
 }
 
-// By value: with `&self`, which keeps a block in memory, a frame run has up to 1.4 % more instructions.
+// By value: behind references, which keep a block and its predictors in memory, a frame run has up to 1.6 % more instructions.
 impl SearchedBlock<'_> {
     // Tries a vector, unless the best so far is that vector's already: it can't be cheaper than itself.
     fn try_unless_best(self, best: MotionSearchResult, mv: MotionVector) -> MotionSearchResult
@@ -54,9 +54,9 @@ impl SearchedBlock<'_> {
     }
 
     // Levels 3 and 2: the cheapest predictor, and diamond.
-    fn short_search(self, p: &MotionEstimationSubsets) -> MotionSearchResult
-        requires { Listed p.now }
-        ensures { result ≡ short_search (rd_in self.entry.planes) p.now }
+    fn short_search(self, p: MotionEstimationSubsets) -> MotionSearchResult
+        requires { Listed p }
+        ensures { result ≡ short_search (rd_in self.entry.planes) p }
     {
         let empty = MotionSearchResult::empty();
         let center = MotionSearchResult::measured(&self.planes, p.center);
@@ -67,9 +67,9 @@ impl SearchedBlock<'_> {
     }
 
     // Level 4: stops below the threshold.
-    fn extensive_search(self, p: &MotionEstimationSubsets) -> MotionSearchResult
-        requires { Listed p.now }
-        ensures { result ≡ extensive_search (rd_in self.entry.planes) p.now }
+    fn extensive_search(self, p: MotionEstimationSubsets) -> MotionSearchResult
+        requires { Listed p }
+        ensures { result ≡ extensive_search (rd_in self.entry.planes) p }
     {
         let near = self.try_cands(&p.subset_b[..p.b_count]);
         if near.rd.sad < p.threshold {
@@ -86,10 +86,10 @@ impl SearchedBlock<'_> {
     pub(crate) fn full_pixel_me(
         self,
         level: usize,
-        p: &MotionEstimationSubsets,
+        p: MotionEstimationSubsets,
     ) -> MotionSearchResult
-        requires { Listed p.now }
-        ensures { result ≡ full_pixel_me (rd_in self.entry.planes) level p.now }
+        requires { Listed p }
+        ensures { result ≡ full_pixel_me (rd_in self.entry.planes) level p }
     {
         if level == 4 {
             self.extensive_search(p)

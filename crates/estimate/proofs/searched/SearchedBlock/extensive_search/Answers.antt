@@ -36,40 +36,40 @@ module _ (rd : CostOf) (p : MotionEstimationSubsets) where
 abbrev cost : Start → CostOf
 cost c = rd_in c.args.self.planes
 
-near-is : (c : After-try_cands-near) → c.try_cands-near.result ≡ near (cost (goal.at.After-try_cands-near c).Start) c.args.p.now
+near-is : (c : After-try_cands-near) → c.try_cands-near.result ≡ near (cost (goal.at.After-try_cands-near c).Start) c.args.p
 near-is c =
-    let p = c.args.p.now in
+    let p = c.args.p in
     c.try_cands-near.ensures ∙ cands_taken (cost (goal.at.After-try_cands-near c).Start) p.subset_b p.b_count (omega arith)
 
 -- past the first test
-missed : (c : Else-near-p) → c.args.p.now.threshold ≤ (near (cost (goal.at.Else-near-p c).Start) c.args.p.now).rd.sad
+missed : (c : Else-near-p) → c.args.p.threshold ≤ (near (cost (goal.at.Else-near-p c).Start) c.args.p).rd.sad
 missed c =
-    subst (λ (m : MotionSearchResult). c.args.p.now.threshold ≤ m.rd.sad) (near-is (goal.at.Else-near-p c).After-try_cands-near) c.if-near-p.false
+    subst (λ (m : MotionSearchResult). c.args.p.threshold ≤ m.rd.sad) (near-is (goal.at.Else-near-p c).After-try_cands-near) c.if-near-p.false
 
-kept-is : (c : After-move_to-best) → c.move_to-best.result ≡ kept (cost (goal.at.After-move_to-best c).Start) c.args.p.now
+kept-is : (c : After-move_to-best) → c.move_to-best.result ≡ kept (cost (goal.at.After-move_to-best c).Start) c.args.p
 kept-is c =
-    let p = c.args.p.now in
+    let p = c.args.p in
     let far = c.try_cands.ensures ∙ cands_taken (cost (goal.at.After-move_to-best c).Start) p.subset_c p.c_count (omega arith) in
     c.move_to-best.ensures ∙ ap₂ cheaper (near-is (goal.at.After-move_to-best c).After-try_cands-near) far
 
 pub returns-then-near-p : goal.returns-then-near-p
 returns-then-near-p c =
-    let p = c.args.p.now in
+    let p = c.args.p in
     near-is (goal.at.returns-then-near-p c).After-try_cands-near ∙ sym (at_first (cost (goal.at.returns-then-near-p c).Start) p (subst (λ (m : MotionSearchResult). m.rd.sad < p.threshold) (near-is (goal.at.returns-then-near-p c).After-try_cands-near) c.if-near-p.true))
 
 pub returns-then-best-p : goal.returns-then-best-p
 returns-then-best-p c =
-    let p = c.args.p.now in
+    let p = c.args.p in
     kept-is (goal.at.returns-then-best-p c).After-move_to-best ∙ sym (at_second (cost (goal.at.returns-then-best-p c).Start) p (missed (goal.at.returns-then-best-p c).Else-near-p) (subst (λ (m : MotionSearchResult). m.rd.sad < p.threshold) (kept-is (goal.at.returns-then-best-p c).After-move_to-best) c.if-best-p.true))
 
 pub uneven_multi_hex_search-requires : goal.uneven_multi_hex_search-requires
 uneven_multi_hex_search-requires c =
     let s = c.args.self in
-    let loose = loose_extensive s.planes.block s.planes.cur.now s.planes.reference.now s.zero_in_range c.args.p.now in
+    let loose = loose_extensive s.planes.block s.planes.cur.now s.planes.reference.now s.zero_in_range c.args.p in
     subst (Ranged s.planes.block) (sym (kept-is (goal.at.uneven_multi_hex_search-requires c).After-move_to-best)) loose.holds.in_range_lem
 
 pub returns : goal.returns
 returns c =
-    let p = c.args.p.now in
+    let p = c.args.p in
     c.uneven_multi_hex_search.ensures ∙ ap (multi_hexagon (cost (goal.at.returns c).Start)) (kept-is (goal.at.returns c).After-move_to-best)
     ∙ sym (at_last (cost (goal.at.returns c).Start) p (missed (goal.at.returns c).Else-near-p) (subst (λ (m : MotionSearchResult). p.threshold ≤ m.rd.sad) (kept-is (goal.at.returns c).After-move_to-best) c.if-best-p.false))
