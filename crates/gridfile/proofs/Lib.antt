@@ -1,6 +1,5 @@
 -- Laws that several proofs cite, and the theorems of specs/Keeps.antt and Peek.antt.
 pub mod RefusedLaws
-pub mod LentLaws
 pub mod WriteLaws
 pub mod EmittedLaws
 pub mod TakenLaws

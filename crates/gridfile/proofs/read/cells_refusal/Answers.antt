@@ -3,13 +3,13 @@ use Rattle.std.proofs.Common.{◌≡◌, ℕ, ◌+◌, ◌-◌, ◌*◌, ◌/◌
 use Rattle.std.proofs.lemmas.Result.{err_from_is_err_and}
 use Rattle.ground.specs.Every.{all_below}
 use Rattle.refusal.specs.Refusals.{◌then◌}
-use Rattle.refusal.proofs.RefusalLaws.{first-is, then_later}
+use Rattle.refusal.proofs.KindsLaws.{err-then}
+use Rattle.refusal.proofs.RefusalLaws.{then_later}
 use Rattle.records.specs.Forms.{plain_forms, header_bytes}
 use Rattle.records.specs.Records.{file_bytes}
 use Rattle.gridfile.specs.Reading.{head_of, between, taken, ended}
 use Rattle.gridfile.proofs.HeaderLaws.{mark_number}
 use Rattle.gridfile.proofs.PlaceLaws.{cell_marked, from_place, marks_behind, marks-stop, cut_short, too_long, just_long}
-use Rattle.gridfile.proofs.RefusedLaws.{numbered}
 use Rattle.gridfile.proofs.read.cells_refusal.Goals.{After-mark_refusal, Else-there-count}
 use Rattle.gridfile.proofs.read.cells_refusal.Goals as goal
 
@@ -45,7 +45,7 @@ returns-then-not-marks_hold c =
 
 pub returns-in_err-mark_refusal : goal.returns-in_err-mark_refusal
 returns-in_err-mark_refusal c =
-    let p = err_from_is_err_and c.from_residual.result c.from_residual.ensures.1 in rw (p.1, p.2) (first-is 11 c.in_err-mark_refusal.ensures (numbered c.in_err-mark_refusal.field-0.0) ∙ ends (goal.at.returns-in_err-mark_refusal c).After-mark_refusal)
+    let p = err_from_is_err_and c.from_residual.result c.from_residual.ensures.1 in rw (p.1, p.2) (err-then c.in_err-mark_refusal.field-0.0 _ 11 c.in_err-mark_refusal.ensures ∙ ends (goal.at.returns-in_err-mark_refusal c).After-mark_refusal)
 
 pub returns-then-there-count : goal.returns-then-there-count
 returns-then-there-count c =

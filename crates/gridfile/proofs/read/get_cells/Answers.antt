@@ -5,11 +5,11 @@ use Rattle.grid.specs.Grid.{Grid, room, with_cell}
 use Rattle.grid.specs.Lent.{lent_mut}
 use Rattle.records.specs.Records.{file_bytes}
 use Rattle.gridfile.proofs.LeftLaws.{Left, left-all, left_there, left-next, left-none}
-use Rattle.gridfile.proofs.LentLaws.{same_here, same_on}
+use Rattle.grid.proofs.LentLaws.{same-refl, same-trans}
 use Rattle.gridfile.proofs.read.get_cells.Goals as goal
 
 pub loop-i-init : goal.loop-i-init
-loop-i-init c = record { left = left-all _ _ _ c.args.said.wide.0 _ c.requires.sound.1; same = same_here c.args.grid.now }
+loop-i-init c = record { left = left-all _ _ _ c.args.said.wide.0 _ c.requires.sound.1; same = same-refl c.args.grid.now }
 
 pub get_cell-requires : goal.get_cell-requires
 unfolding file_bytes
@@ -32,7 +32,7 @@ loop-i-preserved c =
     let next = left-next file said.columns said.rows said.wide.0 lent at.i g (omega (arith, c.loop-i-test.true, c.cells-i-end.ensures)) at.invariant.left in
     record {
       left = subst₂ (λ (n : ℕ) (h : Grid). Left file said.columns said.rows lent n h) (sym (add-one at.i)) (sym step) next;
-      same = same_on at.invariant.same c.save_cell.ensures.same;
+      same = same-trans at.invariant.same c.save_cell.ensures.same;
     }
 
 pub returns-clause-kept : goal.returns-clause-kept

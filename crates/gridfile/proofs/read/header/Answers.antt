@@ -1,9 +1,9 @@
 -- `gridfile::read::header` meets its contract: each return has the tests before it passed. Assumes nothing.
 use Rattle.std.proofs.Common.{◌≡◌, ◌+◌, get_or, sym, ◌∙◌}
 use Rattle.std.proofs.lemmas.Result.{err_from_is_err_and}
-use Rattle.refusal.proofs.RefusalLaws.{first-is, then_later}
+use Rattle.refusal.proofs.KindsLaws.{err-then}
+use Rattle.refusal.proofs.RefusalLaws.{then_later}
 use Rattle.gridfile.specs.Reading.{head_of, header_end}
-use Rattle.gridfile.proofs.RefusedLaws.{numbered}
 use Rattle.gridfile.proofs.HeaderLaws.{mark_number, head_number, rest_number, short_number, long_number, head-number}
 use Rattle.gridfile.proofs.read.header.Goals.{In_ok-mark_refusal, In-len4-up}
 use Rattle.gridfile.proofs.read.header.Goals as goal
@@ -21,7 +21,7 @@ at-end c =
 
 pub returns-in_err-mark_refusal-clause-number : goal.returns-in_err-mark_refusal-clause-number
 returns-in_err-mark_refusal-clause-number c =
-    let p = err_from_is_err_and c.from_residual.result c.from_residual.ensures.1 in rw (p.1, p.2) (first-is (rest_number c.args.room c.args.file.now) c.in_err-mark_refusal.ensures (numbered c.in_err-mark_refusal.field-0.0) ∙ sym (head-number c.args.room c.args.file.now))
+    let p = err_from_is_err_and c.from_residual.result c.from_residual.ensures.1 in rw (p.1, p.2) (err-then c.in_err-mark_refusal.field-0.0 _ (rest_number c.args.room c.args.file.now) c.in_err-mark_refusal.ensures ∙ sym (head-number c.args.room c.args.file.now))
 
 pub returns-in_default-clause-number : goal.returns-in_default-clause-number
 returns-in_default-clause-number c =

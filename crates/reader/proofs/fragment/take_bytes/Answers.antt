@@ -4,7 +4,7 @@ use Rattle.std.proofs.Common.{ℕ, get_or, sym, subst, Fits as FitsWord, w8, ari
 use Rattle.grid.specs.Grid.{room}
 use Rattle.grid.specs.Lent.{lent_mut}
 use Rattle.records.specs.Numbers.{OfBytes}
-use Rattle.gridfile.proofs.LentLaws.{same_here, same_on}
+use Rattle.grid.proofs.LentLaws.{same-refl, same-trans}
 use Rattle.held.specs.Held.{state_of}
 use Rattle.reader.specs.Calls.{Fits}
 use Rattle.reader.proofs.TurnLaws.{Begins, begins, Done, turned_none, turned-all, turned-settled, turned-fits, turned-room, turned_more, turned-refused}
@@ -38,7 +38,7 @@ all c =
     subst (λ (n : ℕ). Done n (state_of c.args.reader) c.args.fragment.now (lent_mut c.args.grid.now) c.loop-byte.held (lent_mut c.loop-byte.grid)) c.room-room.ensures done
 
 pub loop-byte-init : goal.loop-byte-init
-loop-byte-init c = record { turned = turned_none _ _ _ _ _ (sym c.requires.0); same = same_here c.args.grid.now }
+loop-byte-init c = record { turned = turned_none _ _ _ _ _ (sym c.requires.0); same = same-refl c.args.grid.now }
 
 pub keep_byte-requires : goal.keep_byte-requires
 keep_byte-requires c =
@@ -54,7 +54,7 @@ pub loop-byte-preserved : goal.loop-byte-preserved
 loop-byte-preserved c =
     record {
       turned = turned_more c.loop-byte.invariant.turned (start (goal.at.loop-byte-preserved c).At-loop-byte) c.loop-byte-test.true c.next_byte-held.ensures c.keep_byte.ensures.kept;
-      same = same_on c.loop-byte.invariant.same c.keep_byte.ensures.same;
+      same = same-trans c.loop-byte.invariant.same c.keep_byte.ensures.same;
     }
 
 pub returns-then-held-ne0-clause-state : goal.returns-then-held-ne0-clause-state

@@ -5,7 +5,7 @@ use Rattle.grid.specs.Grid.{Grid, room, with_cell}
 use Rattle.grid.specs.Lent.{lent_mut}
 use Rattle.records.specs.Forms.{cell_bytes}
 use Rattle.gridfile.specs.Reading.{marked}
-use Rattle.gridfile.proofs.LentLaws.{same_here, same_on}
+use Rattle.grid.proofs.LentLaws.{same-refl, same-trans}
 use Rattle.gridfile.proofs.MarkLaws.{marked_at}
 use Rattle.reader.proofs.WholeLaws.{Gone, gone_none, gone_more}
 use Rattle.reader.proofs.fragment.take_records.Goals.{In-loop-i}
@@ -20,7 +20,7 @@ module _ (c : In-loop-i) where
   more = omega (arith, c.min-most.ensures, c.saturating_sub-left.ensures, c.count.ensures, c.loop-i-test.true)
 
 pub loop-i-init : goal.loop-i-init
-loop-i-init c = record { gone = gone_none _ _ _ _ _; same = same_here c.args.grid.now }
+loop-i-init c = record { gone = gone_none _ _ _ _ _; same = same-refl c.args.grid.now }
 
 pub save_cell-requires : goal.save_cell-requires
 unfolding room
@@ -41,5 +41,5 @@ loop-i-preserved c =
     let next = gone_more r.columns r.rows r.cells fragment (lent_mut c.args.grid.now) i g c.loop-i.invariant.gone c.requires.said.0 (more at) (there at) ok in
     record {
       gone = subst (λ (h : Grid). Gone r.columns r.rows r.cells fragment (lent_mut c.args.grid.now) (i + 1) h) (sym step) next;
-      same = same_on c.loop-i.invariant.same c.save_cell.ensures.same;
+      same = same-trans c.loop-i.invariant.same c.save_cell.ensures.same;
     }
