@@ -64,6 +64,7 @@ impl Predictors {
 }
 
 // The predictors of a block, from the grid as it stands and the previous one, or one of the refusals 1 to 3 and 5.
+// No BlockCall: `refined` would say nothing here.
 pub fn predictors_of_block(
     width: usize,
     height: usize,
