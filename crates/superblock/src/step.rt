@@ -22,7 +22,7 @@ fn refined_count(level: usize, blocks: &Blocks) -> usize
     if level == 4 { 0 } else { blocks.count() }
 }
 
-// Whether no refinement of a step has an empty window. A loop, since a closure of `all` is not told that k is below the count.
+// Whether no refinement of a step has an empty window. As `(0..count).all(..)` it was tried, and the proof didn't close.
 fn windows_ok(inputs: &LevelInputs<'_>, superblock: usize, grid: &GridRef<'_>) -> bool
     requires inside { superblock < superblocks inputs.now.width inputs.now.height }
     requires in_bounds { (cells inputs.now.width inputs.now.height ≤ length grid.now.rows.now) × (cells inputs.now.width inputs.now.height ≤ length grid.now.cols.now) }
@@ -66,7 +66,8 @@ fn refine_sb_motion(inputs: &LevelInputs<'_>, superblock: usize, grid: &mut Grid
     }
 }
 
-// The blocks of a superblock. A loop of its own: what a refinement asks of its window is nothing to ask of a search.
+// The blocks of a superblock. One loop for these and the refinements would be no plainer: its closure would have to carry what a
+// refinement asks of its window.
 fn estimate_sb_motion(
     inputs: &LevelInputs<'_>,
     superblock: usize,
