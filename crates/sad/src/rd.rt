@@ -18,6 +18,7 @@ pub struct MVCandidateRD {
 
 impl MVCandidateRD {
     // Dearer than any block can be.
+    #[tactic(auto, unfolding(crate::specs::Cost::empty_rd))]
     pub fn empty() -> MVCandidateRD
         ensures { result ≡ empty_rd }
     {
@@ -48,6 +49,7 @@ pub fn compute_mv_rd(weight: u32, sad: u32, cand_mv: MotionVector) -> MVCandidat
 }
 
 // The least sum with which a candidate of such a rate part reaches a cost.
+#[tactic(auto, unfolding(crate::specs::Cost::sad_limit))]
 pub fn sad_limit(cost: u64, rate: u64) -> u64
     ensures { result ≡ sad_limit cost rate }
 {

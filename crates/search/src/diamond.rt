@@ -10,6 +10,7 @@ use points::patterns::Pattern;
 use sad::planes::BlockPlanes;
 
 // The cheapest of the four points round a centre.
+#[tactic(auto, unfolding(crate::specs::Diamond::diamond_best, points::specs::Asked::Plain))]
 fn diamond_round(p: &BlockPlanes<'_>, center: MotionVector, radius_log2: u32) -> MotionSearchResult
     requires { (radius_log2 ≤ 1) × Near center }
     ensures { result ≡ diamond_best (rd_in p.now) radius_log2 center }

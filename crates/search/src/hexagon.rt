@@ -45,6 +45,7 @@ fn hexagon_six(p: &BlockPlanes<'_>, center: MotionVector) -> HexCand
 }
 
 // The three points that the move by `idx` has not tried yet.
+#[tactic(auto, unfolding(crate::specs::Hexagon::hexagon_three))]
 fn hexagon_three(p: &BlockPlanes<'_>, center: MotionVector, idx: usize) -> HexCand
     requires { (idx < 6) × Near center }
     ensures { result ≡ hexagon_three (rd_in p.now) center idx }
@@ -59,6 +60,7 @@ fn hexagon_three(p: &BlockPlanes<'_>, center: MotionVector, idx: usize) -> HexCa
 }
 
 // One round of the eight square points.
+#[tactic(auto, unfolding(crate::specs::Hexagon::square_round, points::specs::Asked::Plain))]
 fn square_refine(p: &BlockPlanes<'_>, current: MotionSearchResult) -> MotionSearchResult
     requires { Near current.mv }
     ensures { result ≡ square_round (rd_in p.now) current }

@@ -10,6 +10,7 @@ use points::patterns::Pattern;
 use sad::planes::BlockPlanes;
 
 // Rows, then columns, both round the start.
+#[tactic(auto, unfolding(crate::specs::MultiHexagon::cross, points::specs::Asked::Plain))]
 fn cross_search(p: &BlockPlanes<'_>, current: MotionSearchResult) -> MotionSearchResult
     requires { Near current.mv }
     ensures { result ≡ cross (rd_in p.now) current }
@@ -20,6 +21,7 @@ fn cross_search(p: &BlockPlanes<'_>, current: MotionSearchResult) -> MotionSearc
 }
 
 // The 24 neighbours of the best so far, in eighths.
+#[tactic(auto, unfolding(crate::specs::MultiHexagon::eighths_square, points::specs::Asked::Plain))]
 fn eighths_square_search(p: &BlockPlanes<'_>, current: MotionSearchResult) -> MotionSearchResult
     requires { Near current.mv }
     ensures { result ≡ eighths_square (rd_in p.now) current }
@@ -29,6 +31,7 @@ fn eighths_square_search(p: &BlockPlanes<'_>, current: MotionSearchResult) -> Mo
 }
 
 // The sixteen points times 1 to 6, round the best so far.
+#[tactic(auto, unfolding(crate::specs::MultiHexagon::rings, points::specs::Asked::Plain))]
 fn rings_search(p: &BlockPlanes<'_>, current: MotionSearchResult) -> MotionSearchResult
     requires { Near current.mv }
     ensures { result ≡ rings (rd_in p.now) current }

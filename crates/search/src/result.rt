@@ -20,6 +20,7 @@ pub struct MotionSearchResult {
 
 impl MotionSearchResult {
     // Dearer than any candidate in range.
+    #[tactic(auto, unfolding(crate::specs::Result::empty_result))]
     pub fn empty() -> MotionSearchResult
         ensures { result ≡ empty_result }
     {
@@ -40,6 +41,7 @@ impl MotionSearchResult {
     }
 
     // Moves to another record if that is cheaper; the first of equals stays.
+    #[tactic(auto, unfolding(crate::specs::Result::cheaper))]
     pub fn move_to(self, other: MotionSearchResult) -> MotionSearchResult
         ensures { result ≡ cheaper self other }
     {
