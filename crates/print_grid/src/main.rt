@@ -6,8 +6,9 @@
 // or `refused NUMBER` where the run is refused.
 #![tactic(auto)]
 
-use grid::lent::GridRef;
-use inter::calls::lockdapple_frame_run;
+use estimate::planes::FramePlanes;
+use grid::lent::GridMut;
+use inter::runs::run;
 use print::{grid, labelled, text};
 
 const WIDTH: usize = 8;
@@ -26,39 +27,24 @@ const HALF: usize = WIDTH / 2 + 2 * 40;
 const QUARTER: usize = WIDTH / 4 + 2 * 20;
 
 fn main(rt: HostRuntime) {
-    let full = [90u8; FULL * FULL];
-    let half = [90u8; HALF * HALF];
-    let quarter = [90u8; QUARTER * QUARTER];
-    let mut rows = [0i16; CELLS];
-    let mut cols = [0i16; CELLS];
-    let mut sads = [0u32; CELLS];
-    let code = lockdapple_frame_run(
-        WIDTH,
-        HEIGHT,
-        &full,
-        &half,
-        &quarter,
-        &full,
-        &half,
-        &quarter,
-        0,
-        &[],
-        &[],
-        &[],
-        &[0],
-        &mut rows,
-        &mut cols,
-        &mut sads,
-    );
-    if code != 0 {
-        labelled(&rt, b"refused ", code as u64);
-        text(&rt, b"\n");
-        return;
-    }
-    let lent = GridRef {
-        rows: &rows,
-        cols: &cols,
-        sads: &sads,
+    let planes = FramePlanes {
+        full: &[90; FULL * FULL],
+        half: &[90; HALF * HALF],
+        quarter: &[90; QUARTER * QUARTER],
     };
-    grid(&rt, ACROSS, CELLS, &lent);
+    let mut rows = [0; CELLS];
+    let mut cols = [0; CELLS];
+    let mut sads = [0; CELLS];
+    let mut lent = GridMut {
+        rows: &mut rows,
+        cols: &mut cols,
+        sads: &mut sads,
+    };
+    match run(WIDTH, HEIGHT, &planes, &planes, None, &[0], &mut lent) {
+        Ok(()) => grid(&rt, ACROSS, CELLS, &lent.read()),
+        Err(refusal) => {
+            labelled(&rt, b"refused ", u64::from(refusal.number()));
+            text(&rt, b"\n");
+        }
+    }
 }
