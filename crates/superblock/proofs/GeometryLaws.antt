@@ -8,7 +8,7 @@ use native.Mathlib.Omega.{arith}
 use borrow.Author.Tests.{le-ltb}
 use lib.Dec.{leb, ltb}
 use Rattle.motion.specs.declared.level.Level.{Level}
-use Rattle.motion.specs.Limits.{largest_side, cell_side, superblock_side}
+use Rattle.motion.specs.Limits.{cell_side, superblock_side}
 use Rattle.motion.specs.Frame.{Side, Starts}
 use Rattle.motion.specs.Level.{level_of}
 use Rattle.motion.specs.Superblock.{superblocks_along, superblocks, superblock_x, superblock_y}
@@ -106,12 +106,6 @@ module _ {width height size n : ℕ} (tabled : Tabled size) (wide : Side width) 
   count_most =
       mul-le-mul {n₁ = blocks_along width size (superblock_x width n)} {m₁ = blocks_along height size (superblock_y width n)} {n₂ = 4} {m₂ = 4}
       (along_most tabled width (superblock_x width n)) (along_most tabled height (superblock_y width n))
-
-  -- what the functions of a block's place ask, of code that has the size at hand
-  pub place-asked : {mv-size : ℕ} → mv-size ≡ size → (k : ℕ) → k < block_count width height size n → Side width × (n ≤ largest_side) × (0 < mv-size) × (mv-size ≤ superblock_side) × (k ≤ largest_side)
-  place-asked same k below =
-      let bounds = tabled_bounds tabled in
-      (wide, omega (arith, h, superblocks-most wide high), omega (arith, same, bounds.0), omega (arith, same, bounds.1), omega (arith, count_most))
 
   pub placed : (k : ℕ) → k < block_count width height size n → Starts width size (block_x width size n k) × Starts height size (block_y width size n k)
   unfolding block_count block_x block_y
