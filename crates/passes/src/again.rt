@@ -16,8 +16,8 @@ pub const BLOCK: usize = 256;
 // A file that was checked and is gone through again, by the argument that names it, and the sum over the bytes so far.
 #[derive(Drop)]
 pub struct Again {
-    file: File,
-    which: usize,
+    pub file: File,
+    pub which: usize,
     pub sum: u64,
 }
 

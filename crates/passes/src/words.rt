@@ -46,7 +46,7 @@ pub fn say_name(rt: &HostRuntime, which: usize) {
 }
 
 // A file that was checked is no longer the same.
-pub(crate) fn say_changed(rt: &HostRuntime, which: usize) {
+pub fn say_changed(rt: &HostRuntime, which: usize) {
     say_name(rt, which);
     say(rt, b": changed while it was read\n");
 }
