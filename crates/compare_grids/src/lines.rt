@@ -71,6 +71,8 @@ pub(crate) fn compare(rt: &HostRuntime, extent: Extent, first: u64, second: u64)
         second: Again::open(rt, 2)?,
         report: Report::new(extent.columns),
     };
+    pass.first.pass_header();
+    pass.second.pass_header();
     pass.pass_cells(rt, extent.cells())?;
     pass.first.same_at_end(rt, first)?;
     pass.second.same_at_end(rt, second)?;

@@ -22,15 +22,20 @@ pub struct Again {
 }
 
 impl Again {
-    // The file with its header gone by; none, with words, where it can't be opened.
+    // The file from its first byte on; none, with words, where it can't be opened.
     pub fn open(rt: &HostRuntime, which: usize) -> Option<Again> {
         let mut room = [0u8; NAME];
         let name = argument(rt, which, &mut room).unwrap_or(b"");
-        let mut file = or_say(rt, name, open_named(rt, name))?;
-        let mut header = [0u8; HEADER_BYTES];
-        read_full(&mut file, &mut header);
-        let sum = summed(0, &header);
+        let file = or_say(rt, name, open_named(rt, name))?;
+        let sum = 0;
         Some(Again { file, which, sum })
+    }
+
+    // Past the header, which was looked at when the file was checked. Not part of `open`: what comes first needs no byte of the file.
+    pub fn pass_header(&mut self) {
+        let mut header = [0u8; HEADER_BYTES];
+        read_full(&mut self.file, &mut header);
+        self.sum = summed(self.sum, &header);
     }
 
     // The next records; none, with words, where they are no longer there.

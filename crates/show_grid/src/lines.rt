@@ -66,8 +66,9 @@ fn write_heading(rt: &HostRuntime, extent: Extent) -> Option<()> {
 
 // The listing of a file that was checked; none, with words, where it can't be read, changed or can't be written.
 pub(crate) fn show(rt: &HostRuntime, extent: Extent, checked: u64) -> Option<()> {
-    let file = Again::open(rt, 1)?;
+    let mut file = Again::open(rt, 1)?;
     write_heading(rt, extent)?;
+    file.pass_header();
     let listing = Listing::new(extent.columns);
     Pass { file, listing }.show_cells(rt, extent.cells(), checked)
 }
