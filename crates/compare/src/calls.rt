@@ -10,7 +10,7 @@ use refusal::kinds::Refusal;
 // A number of document 02, how many places differ from a cell on, and the first of them: the C interface, so that 0 stands for
 // no refusal.
 #[repr(C)]
-#[derive(Clone, Copy)]
+#[derive(Clone, Copy, Debug, PartialEq, Eq)]
 pub struct Comparison {
     pub code: u32,
     pub count: u64,
@@ -19,7 +19,7 @@ pub struct Comparison {
 
 // The same number, and the first place that differs from a cell on.
 #[repr(C)]
-#[derive(Clone, Copy)]
+#[derive(Clone, Copy, Debug, PartialEq, Eq)]
 pub struct Place {
     pub code: u32,
     pub place: u64,

@@ -14,7 +14,8 @@ pub fn same_cell(a: MEStats, b: MEStats) -> bool
     a == b
 }
 
-// Whether a cell of the first grid and that of the second do not hold the same.
+// Whether a cell of the first grid and that of the second do not hold the same. Two grids and no pair of them: the definitions
+// take them one by one.
 #[tactic(auto, unfolding(grid::specs::Grid::room))]
 pub(crate) fn differs_at(first: &GridRef<'_>, second: &GridRef<'_>, i: usize) -> bool
     requires { (i < room (lent first.now)) × (i < room (lent second.now)) }

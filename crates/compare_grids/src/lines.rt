@@ -21,7 +21,7 @@ struct Pass {
 }
 
 impl Pass {
-    // A block of both files, and the lines of its cells that differ.
+    // A block of both files, and the lines of its cells that differ. The count stands beside the buffers, as in `load`.
     fn pass_block(
         &mut self,
         rt: &HostRuntime,
@@ -48,6 +48,7 @@ impl Pass {
         let mut a = [0u8; CELL_BYTES * BLOCK];
         let mut b = [0u8; CELL_BYTES * BLOCK];
         let mut out = [0u8; LINE * BLOCK];
+        // By blocks: the report has the place.
         while self.report.next < cells {
             let count = BLOCK.min(cells - self.report.next);
             self.pass_block(rt, count, &mut a, &mut b, &mut out)?;

@@ -99,7 +99,7 @@ pub(crate) enum Lent {
     NoPrevious,
 }
 
-#[derive(Clone, Copy)]
+#[derive(Clone, Copy, Debug, PartialEq, Eq)]
 pub(crate) struct Case {
     pub(crate) call: Call,
     pub(crate) width: usize,

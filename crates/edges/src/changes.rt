@@ -14,7 +14,8 @@ const BEFORE: i16 = 97;
 // What a SAD holds before a call; on a flat frame all are 0.
 const SAD_BEFORE: u32 = 97;
 
-// The cells of which a call is lent the first.
+// The cells of which a call is lent the first: three arrays, as the entry points are lent them. replay has such a struct of
+// another size: a common one would be a library's, with promises that no program needs.
 #[derive(Drop)]
 pub(crate) struct Cells {
     pub(crate) rows: [i16; LENT_CELLS],
@@ -23,7 +24,7 @@ pub(crate) struct Cells {
 }
 
 // How many numbers of the grid changed: of the frame's cells, and of those past them.
-#[derive(Clone, Copy)]
+#[derive(Clone, Copy, Debug, PartialEq, Eq)]
 struct Changes {
     written: u64,
     past: u64,

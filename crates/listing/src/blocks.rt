@@ -25,8 +25,8 @@ impl Listing {
         Listing { across, next: 0 }
     }
 
-    // A step: so many cell records of a file, whose lines are put. The count stands beside the bytes, as a block's buffer is as
-    // long as the largest block.
+    // A step: so many cell records of a file, whose lines are put. The count stands beside the bytes, as the definition
+    // `record_cells` takes both.
     pub fn step(&mut self, cells: &[u8], count: usize, w: &mut Writer<'_>)
         requires { Open self.old count × (w.old.at + line_room * count ≤ length w.old.out.now) × (cell_bytes * count ≤ length cells.now) }
         ensures went_on { self.new ≡ later self.old count }

@@ -5,7 +5,7 @@ ghost use Rattle.listing.specs.Parts.{place_text, cell_text};
 use grid::cells::MEStats;
 use text::writer::Writer;
 
-// The column and row of a place.
+// The column and row of a place. Two numbers, as the definition `place_text` takes them.
 #[tactic(auto, using(crate::proofs::LineLaws::place_length))]
 pub fn put_place(across: usize, i: usize, w: &mut Writer<'_>)
     requires { (0 < across) × (w.old.at + length (place_text across i) ≤ length w.old.out.now) }

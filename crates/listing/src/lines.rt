@@ -7,7 +7,7 @@ use crate::cells::{put_cell_text, put_place};
 use grid::cells::MEStats;
 use text::writer::Writer;
 
-// Room for any line.
+// Room for any line. That it is left is asked by each line: a writer's room shrinks as it goes.
 pub const LINE: usize = 64;
 
 // So many columns and rows of cells.
@@ -37,7 +37,7 @@ pub fn put_listed(across: usize, i: usize, cell: MEStats, w: &mut Writer<'_>)
     w.put_byte(b'\n');
 }
 
-// The only line of a refusal.
+// The only line of a refusal, by its number, as the definition `refused_line` takes it.
 #[tactic(auto, using(crate::proofs::LineLaws::digits_most))]
 pub fn put_refused(number: u32, w: &mut Writer<'_>)
     requires { w.old.at + line_room ≤ length w.old.out.now }

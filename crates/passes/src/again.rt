@@ -38,7 +38,8 @@ impl Again {
         self.sum = summed(self.sum, &header);
     }
 
-    // The next records; none, with words, where they are no longer there.
+    // The next records; none, with words, where they are no longer there. The count stands beside the buffer, which is as long as
+    // the largest block: one read more tells that the file has ended.
     #[tactic(auto, unfolding(crate::specs::Again::all_marked))]
     pub fn load(&mut self, rt: &HostRuntime, count: usize, block: &mut [u8]) -> Option<()>
         requires { cell_bytes * count ≤ length block.old }

@@ -18,13 +18,14 @@ const MOST_READS: usize = HEADER_BYTES + CELL_BYTES * MOST_FILE_CELLS + 1;
 const BUFFER: usize = 4096;
 
 // A file that was gone through: what its header says, or why it is refused, and a sum over its bytes.
-#[derive(Clone, Copy)]
+#[derive(Clone, Copy, Debug, PartialEq, Eq)]
 pub struct Checked {
     pub extent: Result<Extent, Refusal>,
     pub sum: u64,
 }
 
-// What a file that ends here holds. No header says 0 rows, so those are what a reader holds that read none.
+// What a file that ends here holds. The reader's code is C's number, so it is read as one here. No header says 0 rows: a reader
+// that holds 0 has read none.
 fn extent_at_end(reader: Reader) -> Result<Extent, Refusal> {
     let last = lockdapple_reader_end(reader);
     match last.code {

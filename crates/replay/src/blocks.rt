@@ -67,6 +67,7 @@ pub(crate) fn on_block(call: Call, cur: &[u8], reference: &[u8]) -> Found {
         Kind::MultiHexagon => lockdapple_multi_hexagon(
             width, height, level, bx, by, cur, reference, row, col, weight,
         ),
+        // A frame's call comes to `on_frame`.
         Kind::Refinement | Kind::Frame => refined(call, cur, reference),
     }
 }

@@ -1,3 +1,4 @@
+ghost use Rattle.std.specs.Prelude.{◌≡◌, true};
 ghost use Rattle.replay.specs.Call.{Drawable};
 
 use crate::grids::CELLS;
@@ -35,7 +36,7 @@ impl TryFrom<usize> for Kind {
 
 // What the proved code is asked: a kind of call, a block, the content of the planes, and a vector, which a refinement
 // finds stored. Of a frame the block is a cell, and `refined` is whether there is a previous grid.
-#[derive(Clone, Copy)]
+#[derive(Clone, Copy, Debug, PartialEq, Eq)]
 pub(crate) struct Call {
     pub(crate) kind: Kind,
     pub(crate) width: usize,
@@ -72,6 +73,13 @@ impl From<Found> for Answer {
     }
 }
 
+// Whether the buffers hold the planes of such a call, and its cell.
+fn drawable(width: usize, height: usize, bx: usize, by: usize, seed: usize) -> bool
+    ensures { result ≡ true → Drawable width height bx by seed }
+{
+    width <= LARGEST && height <= LARGEST && bx < CELLS && by < CELLS && seed < SEEDS
+}
+
 // A call and what the published Rust found, from the columns of a line, those of a frame below where they are others:
 //
 //     kind width height level refined bx by content seed row col weight out_row out_col sad cost
@@ -99,13 +107,7 @@ pub(crate) fn case_of(line: &[u8]) -> Option<(Call, Answer)> {
         sad: natural(columns.next()?)?,
         cost: natural(columns.next()?)?,
     };
-    if columns.next().is_some()
-        || width > LARGEST
-        || height > LARGEST
-        || bx >= CELLS
-        || by >= CELLS
-        || seed >= SEEDS
-    {
+    if columns.next().is_some() || !drawable(width, height, bx, by, seed) {
         return None;
     }
     let call = Call {

@@ -9,7 +9,7 @@ use single::found::Found;
 // What the cells hold before a run, and after none.
 const BEFORE: i16 = 32767;
 
-// How many superblocks a frame has: at most three on a side.
+// How many superblocks a frame has: at most three on a side. Not motion's `superblocks_of`, for the reason of `cell`.
 fn superblocks(width: usize, height: usize) -> usize
     requires { (width ≤ 136) × (height ≤ 136) }
     ensures { result ≤ 9 }

@@ -8,7 +8,7 @@ pub(crate) const CELLS: usize = 34;
 // Nor more in all.
 pub(crate) const LARGEST_GRID: usize = CELLS * CELLS;
 
-// The number of a cell.
+// The number of a cell. Not grid's `cell_at`: its promise says no bound, which is all that is asked here.
 pub(crate) fn cell(width: usize, bx: usize, by: usize) -> usize
     requires { (width ≤ 136) × (bx < 34) × (by < 34) }
     ensures { result < 1156 }
@@ -16,7 +16,7 @@ pub(crate) fn cell(width: usize, bx: usize, by: usize) -> usize
     by * (width / 4) + bx
 }
 
-// How many cells a frame has.
+// How many cells a frame has: as above, for the bound alone.
 pub(crate) fn cells(width: usize, height: usize) -> usize
     requires { (width ≤ 136) × (height ≤ 136) }
     ensures { result ≤ 1156 }
@@ -47,7 +47,7 @@ fn cell_folded(sum: usize, row: i16, col: i16, sad: u32) -> usize
     folded(with_col, sad as usize)
 }
 
-// The cells of the largest grid.
+// The cells of the largest grid: three arrays, as the entry points are lent them.
 #[derive(Drop)]
 pub(crate) struct Grid {
     pub(crate) rows: [i16; LARGEST_GRID],

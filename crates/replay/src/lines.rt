@@ -21,6 +21,7 @@ pub(crate) fn replayed(text: &[u8], cur: &mut [u8; SAMPLES], reference: &mut [u8
 {
     let mut tally = Tally::new();
     let mut rest = text;
+    // No `split`: behind the newline that ends a text it has a line more, which would be malformed.
     while !rest.is_empty() {
         let (line, behind) = first_line(rest);
         tally = tally.counted(outcome(line, cur, reference));

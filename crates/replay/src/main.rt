@@ -96,7 +96,8 @@ fn replay_all(
 }
 
 // The file and the planes are lent from here: compiled, the prologue of so large a frame can spoil a register that a
-// test before it set, and nothing comes before this one.
+// test before it set, and nothing comes before this one. The planes go along as two: a struct of both would have to be borrowed
+// anew in each turn.
 fn main(rt: HostRuntime) {
     if argument_count(&rt) < 2 {
         text(&rt, b"expected files of answers: replay FILE..\n");

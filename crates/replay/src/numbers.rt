@@ -1,4 +1,4 @@
-// A number: one digit or more, and nothing else. There is none where 64 bits don't hold it.
+// A number: one digit or more, and nothing else, so no `parse`, which takes a plus. There is none where 64 bits don't hold it.
 pub(crate) fn natural(field: &[u8]) -> Option<usize> {
     if field.is_empty() {
         return None;

@@ -26,8 +26,8 @@ fn fill(plane: &mut [u8], stride: usize, content: Content, seed: usize, which: u
     }
 }
 
-// Draws the plane of the call's level, of the current frame (0) or the reference (1). A frame's call has no level, and a
-// run looks at all.
+// Draws the plane of the call's level, of the current frame (0) or the reference (1), by its number as `value` takes it. A
+// frame's call has no level, and a run looks at all.
 pub(crate) fn draw(call: Call, which: usize, planes: &mut [u8; SAMPLES])
     requires { which ≤ 1 }
 {

@@ -48,6 +48,7 @@ fn noise(k: usize, x: usize, y: usize) -> usize
     squared(squared(v)) / 4096 % 256
 }
 
+// Seed, plane and place are four numbers here and below: they are what the published sums are of.
 fn gradient(seed: usize, plane: usize, x: usize, y: usize) -> usize
     requires { (seed < 65536) × (plane ≤ 1) × (x < 65536) × (y < 65536) }
     ensures { result < 256 }
@@ -84,7 +85,8 @@ fn plateau(seed: usize, plane: usize, x: usize, y: usize) -> usize
     }
 }
 
-// The sample in column x and row y of a padded plane, the current one (0) or the reference (1).
+// The sample in column x and row y of a padded plane, the current one (0) or the reference (1): a number, since the sums of the
+// published Rust count with it.
 pub(crate) fn value(content: Content, seed: usize, plane: usize, x: usize, y: usize) -> usize
     requires { (seed < 65536) × (plane ≤ 1) × (x < 65536) × (y < 65536) }
     ensures { result < 256 }

@@ -14,7 +14,7 @@ pub(crate) enum Outcome {
 
 // The lines passed, the cases among them, how many came out equal, and the first line that is malformed and that
 // differs.
-#[derive(Clone, Copy)]
+#[derive(Clone, Copy, Debug, PartialEq, Eq)]
 pub(crate) struct Tally {
     pub(crate) lines: u64,
     pub(crate) read: u64,

@@ -48,7 +48,7 @@ impl Report {
     }
 
     // A step: so many cell records of each file, of which the lines of those that differ are put. The count stands beside the
-    // bytes, as in a listing's step.
+    // bytes, as the definition `record_cells` takes both.
     pub fn step(&mut self, first: &[u8], second: &[u8], count: usize, w: &mut Writer<'_>)
         requires open_and_room { Open self.old count × (w.old.at + line_room * count ≤ length w.old.out.now) }
         requires count_in_bounds { (cell_bytes * count ≤ length first.now) × (cell_bytes * count ≤ length second.now) }

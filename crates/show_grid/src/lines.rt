@@ -50,6 +50,7 @@ impl Pass {
     {
         let mut block = [0u8; CELL_BYTES * BLOCK];
         let mut out = [0u8; LINE * BLOCK];
+        // By blocks: the listing has the place.
         while self.listing.next < cells {
             self.show_block(rt, cells, checked, &mut block, &mut out)?;
         }

@@ -9,6 +9,7 @@ pub struct Writer<'a> {
 }
 
 impl<'a> Writer<'a> {
+    // Here, since no list above a struct with a ghost field may name what names it.
     ghost use Rattle.std.specs.Prelude.{◌≡◌, [], ◌∷◌, ◌+◌, ◌≤◌, ◌<◌, length, take};
     ghost use Rattle.text.specs.Put.{Puts};
 
