@@ -38,7 +38,7 @@ fn lend<'a>(block: Block, cur: &'a [u8], reference: &'a [u8]) -> BlockPlanes<'a>
     }
 }
 
-// The block of a size at a cell, with the planes of its level.
+// The block of a size at a cell, with the planes of its level. A cell is two numbers, as the definitions have it.
 fn planes_at<'a>(inputs: &LevelInputs<'a>, mv_size: usize, bx: usize, by: usize) -> BlockPlanes<'a>
     requires sized { Sized (level_of inputs.now.level) mv_size }
     requires starts { Starts inputs.now.width mv_size bx × Starts inputs.now.height mv_size by }
@@ -103,6 +103,7 @@ fn first_stored(width: usize, bx: usize, by: usize, grid: &GridRef<'_>) -> Motio
 }
 
 // The window of a block's refinement, round the vector stored in its first cell.
+// Width and height stay two numbers, as the definitions and C have them.
 pub fn window_at(
     width: usize,
     height: usize,

@@ -20,7 +20,7 @@ pub(crate) struct SearchedBlock<'a> {
     ghost zero_in_range: { in_range planes.block.range zero_v ≡ true },
 }
 
-// By value: behind references, which keep a block and its predictors in memory, a frame run has up to 1.6 % more instructions.
+// By value: behind references, which keep a block and its predictors in memory, a flat frame has 1.4 % more instructions.
 impl SearchedBlock<'_> {
     // Tries a vector, unless the best so far is that vector's already: it can't be cheaper than itself.
     fn try_unless_best(self, best: MotionSearchResult, mv: MotionVector) -> MotionSearchResult

@@ -57,6 +57,7 @@ fn inputs_at<'a>(
 }
 
 // Levels 4, 3 and 2, each in list order.
+// Width and height stay two numbers, as the definitions and C have them.
 pub fn frame_run(
     width: usize,
     height: usize,

@@ -6,7 +6,7 @@ ghost use Rattle.grid.specs.Lent.{lent, lent_mut, SameBuffers, previous_lent, Sa
 use crate::cells::MEStats;
 use motion::vector::MotionVector;
 
-// A grid lent to be read: its three buffers.
+// A grid lent to be read: its three buffers, as the C interface lends them.
 #[derive(Clone, Copy)]
 pub struct GridRef<'a> {
     pub rows: &'a [i16],
@@ -45,7 +45,7 @@ impl GridRef<'_> {
     }
 }
 
-// A grid lent to be written.
+// A grid lent to be written: its three buffers, as the C interface lends them.
 #[derive(Drop)]
 pub struct GridMut<'a> {
     pub rows: &'a mut [i16],

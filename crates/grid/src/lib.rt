@@ -1,4 +1,4 @@
-// The cells of a grid, and a result saved over those of a block.
+// The cells of a grid, how one is lent, and a result saved over those of a block.
 #![tactic(auto)]
 
 pub mod cells;

@@ -29,7 +29,7 @@ impl GridMut<'_> {
         self.sads[from..to].fill(stats.normalized_sad);
     }
 
-    // The same over at most three cells. A loop or a `fill` here would be widened, and costs a run over a still frame 3 % more instructions.
+    // The same over at most three cells. A loop or a `fill` here would be widened, and costs a run over a flat frame 3 % more instructions.
     fn save_rest(&mut self, from: usize, to: usize, stats: MEStats)
         requires few { («from» ≤ to) × (to ≤ «from» + 3) }
         requires to_in_bounds { (to ≤ length self.old.rows.now) × (to ≤ length self.old.cols.now) × (to ≤ length self.old.sads.now) }
@@ -65,6 +65,7 @@ impl GridMut<'_> {
     }
 
     // One result over the cells of a block, cropped at the frame.
+    // Width and height stay two numbers, as the definitions and C have them.
     pub fn save_me_stats(
         &mut self,
         width: usize,

@@ -9,7 +9,7 @@ use borrow.Author.Tests.{leb-true}
 use lib.ListN.{length, drop, length-append}
 use lib.Seq.{sets, sets-eq}
 use Rattle.ground.proofs.TestLaws.{both}
-use Rattle.motion.specs.Limits.{largest_side, cell_side}
+use Rattle.motion.specs.Limits.{cell_side}
 use Rattle.motion.specs.Frame.{Side}
 use Rattle.grid.specs.Grid.{Grid, Held, cells, stats_at, room}
 use Rattle.refusal.specs.Refusals.{side_ok}
@@ -35,9 +35,6 @@ cells-snoc g i (suc n) =
 -- a grid has at most 256 by 256 cells
 pub shape_most : {columns rows : ℕ} → columns ≤ 2 ^ 8 → rows ≤ 2 ^ 8 → columns * rows ≤ 2 ^ 16
 shape_most {columns} {rows} wide high = mul-le-mul {n₁ = columns} {m₁ = rows} {n₂ = 2 ^ 8} {m₂ = 2 ^ 8} wide high
-
-pub cells-most : {width height : ℕ} → width ≤ largest_side → height ≤ largest_side → (width / cell_side) * (height / cell_side) ≤ 2 ^ 16
-cells-most wide high = shape_most (omega arith) (omega arith)
 
 -- and an even number of them
 pub cells-even : {width : ℕ} (height : ℕ) → Side width → ((width / cell_side) * (height / cell_side)) % 2 ≡ 0

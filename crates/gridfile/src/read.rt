@@ -118,6 +118,7 @@ fn header(file: &[u8], room: usize) -> Result<Extent, Refusal>
 }
 
 // Whether the first `count` cell records, all of whose bytes are there, start with the mark.
+// The count stands beside the bytes, as a file may end inside a record.
 pub fn marks_hold(records: &[u8], count: usize) -> bool
     requires { cell_bytes * count ≤ length records.now }
     ensures { result ≡ all_below count (λ i. marked mark 0 (get_or records.now (cell_bytes * i) 0) && marked mark 1 (get_or records.now (cell_bytes * i + 1) 0)) }

@@ -42,6 +42,7 @@ impl From<Result<usize, Refusal>> for Written {
 }
 
 // Columns and rows of a frame's grid, or refusals 1, 5 and 13, in this order.
+// Width and height stay two numbers, as the definitions and C have them.
 fn extent_of(width: usize, height: usize, room: usize, bytes: usize) -> Result<Extent, Refusal>
     ensures number { code_of result ≡ write_refusal width height room bytes }
     ensures sides { IfOk result (λ extent. (extent.columns ≡ width / cell_side) × (extent.rows ≡ height / cell_side)) }

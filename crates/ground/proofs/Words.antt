@@ -32,9 +32,6 @@ module _ {w : Width} {z : ℤ} (f : SFits w z) where
   pub shr_fits : (m : ℕ) → SFits w (shr_z z m)
   shr_fits m = sfits_le (mag_shr z m) f
 
-  pub shr_word : (m : ℕ) → to_z w (of_z w (shr_z (to_z w (of_z w z)) m)) ≡ shr_z z m
-  shr_word m = ap (λ (y : ℤ). to_z w (of_z w (shr_z y m))) (to_z-of_z w z f) ∙ to_z-of_z w (shr_z z m) (shr_fits m)
-
 -- the quotient of a 16-bit number by 8
 pub eighth_bounds : (z : ℤ) → SFits w16 z → (2 ^ 40 ≤ bias (quot_z z (pos 8)) + 4096) × (bias (quot_z z (pos 8)) ≤ 2 ^ 40 + 4095)
 eighth_bounds (pos n) f = omega (arith, f.sfits)

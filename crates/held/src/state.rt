@@ -8,7 +8,7 @@ use refusal::kinds::Refusal;
 
 // The state between two calls: the refusal so far, what the header said, how many cells were taken in, and the bytes of the
 // record that comes next. The C interface: 40 bytes in which any number may stand, so the number of a refusal, the sides and
-// how many bytes are held are fields.
+// how many bytes are held are fields, and what is settled stands in clauses.
 #[repr(C)]
 #[derive(Clone, Copy, Debug, PartialEq, Eq)]
 pub struct Reader {
@@ -21,7 +21,7 @@ pub struct Reader {
     pub spare: u32,
 }
 
-// No byte of a record is held.
+// No byte of a record is held. The code is a number, as a state that C passes may hold any.
 pub fn between(code: u32, columns: u32, rows: u32, cells: u32) -> Reader
     ensures { result ≡ reader_of (plain code columns rows cells) }
 {

@@ -15,6 +15,7 @@ use refusal::kinds::Refusal;
 use refusal::refusals::{grids_hold, planes_test, side_ok};
 
 // The tests behind refusals 1, 4 and 5, in their order, with the grid's room.
+// Width and height stay two numbers, as the definitions and C have them.
 fn run_tests(
     width: usize,
     height: usize,

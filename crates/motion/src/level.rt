@@ -11,6 +11,7 @@ pub struct Level {
     pub refined: usize,
 }
 
+// A level is its number here and in all contracts, as the definitions take it and C passes it.
 // Any other number than 4 and 3 is answered with level 2; callers refuse what is no level.
 #[tactic(auto, unfolding(crate::specs::Level::level_of))]
 pub fn level_of(level: usize) -> Level

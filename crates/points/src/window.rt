@@ -7,7 +7,8 @@ use motion::limits::EIGHTHS;
 use motion::range::MvRange;
 use motion::vector::MotionVector;
 
-// So many whole pixels of one axis, from the first. No range, since the definitions count.
+// So many whole pixels of one axis, from the first.
+// No range, since the definitions count; and no ghost field, since their `refine_span` makes one of any numbers.
 #[derive(Clone, Copy, PartialEq, Eq, Debug)]
 pub struct Span {
     pub lo: i16,

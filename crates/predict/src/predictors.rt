@@ -42,7 +42,7 @@ pub struct MotionEstimationSubsets {
 }
 
 // How a block's predictors are made of stored vectors: by its range and its level's shift.
-#[derive(Clone, Copy)]
+#[derive(Clone, Copy, Debug, PartialEq, Eq)]
 struct Scale {
     range: MvRange,
     ssdec: u32,
@@ -122,6 +122,7 @@ fn stop_threshold(min_sad: u32, area: u32) -> u32
     (u64::from(min_sad) * 6 / 5) as u32 + area
 }
 
+// Width and height stay two numbers, as the definitions and C have them.
 pub fn get_subset_predictors(
     width: usize,
     height: usize,
@@ -164,6 +165,7 @@ pub fn get_subset_predictors(
     let m = scale.centre_of(centre, grid);
     let area = (block.w * block.h) as u32;
     let min_sad = minimum_sad(b.least.min(c.least.min(m.normalized_sad)), area);
+    // Variables, as the check of borrows doesn't cover an array's field that goes straight into a literal.
     let subset_b = b.mvs;
     let subset_c = c.mvs;
     MotionEstimationSubsets {

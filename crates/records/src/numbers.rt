@@ -12,6 +12,7 @@ pub(crate) fn get_i16(file: &[u8], at: usize) -> i16
     i16::from_le_bytes([file[at], file[at + 1]])
 }
 
+// An unsigned number of four. Both stand here, as `from_le_bytes` is a function of each type, and no trait has it.
 pub(crate) fn get_u32(file: &[u8], at: usize) -> u32
     requires { at + 4 ≤ length file.now }
     ensures { result ≡ number_of (slice at (at + 4) file.now) }

@@ -9,7 +9,7 @@ use crate::numbers::{get_i16, get_u32};
 use grid::cells::MEStats;
 use motion::vector::MotionVector;
 
-// The mark that every record starts with.
+// The mark that every record starts with. A file and a place in it, as `sets` and `slice` of the promises take them.
 fn put_mark(at: usize, file: &mut [u8])
     requires { at + 2 ≤ length file.old }
     ensures { file.new ≡ sets file.old at mark }
@@ -38,7 +38,7 @@ pub fn put_header(columns: usize, rows: usize, file: &mut [u8])
     file[3] = (rows - 1) as u8;
 }
 
-// The eight bytes behind the mark are one store.
+// The eight bytes behind the mark are one store: with two cells a turn the loop takes two thirds of the time.
 pub fn put_cell(at: usize, cell: MEStats, file: &mut [u8])
     requires { at + cell_bytes ≤ length file.old }
     ensures { file.new ≡ sets file.old at (cell_record one_sad cell) }

@@ -1,4 +1,4 @@
-// The tests behind the refusals: sides, level, block start, planes and grid.
+// The refusals by name and number, and the tests behind them: sides, level, block start, planes and grid.
 #![tactic(auto)]
 
 pub mod kinds;

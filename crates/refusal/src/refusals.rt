@@ -10,6 +10,7 @@ use motion::block::plane_of;
 use motion::level::level_of;
 use motion::limits::{CELL_SIDE, LARGEST_SIDE, SIDE_STEP};
 
+// A bool, as the definition is: a call asks it of two sides, and refuses once.
 #[tactic(auto, unfolding(crate::specs::Refusals::side_ok))]
 pub fn side_ok(side: usize) -> bool
     ensures { result ≡ side_ok side }
@@ -42,6 +43,7 @@ fn plane_ok(width: usize, height: usize, level: usize, len: usize) -> bool
 }
 
 // The test behind refusal 4, of the lengths of a level's two planes.
+// Width and height stay two numbers, as the definitions and C have them.
 #[tactic(auto, unfolding(crate::specs::Refusals::planes_refusal, crate::specs::Refusals::refuse))]
 pub fn planes_test(
     width: usize,
@@ -111,7 +113,7 @@ impl BlockCall {
     }
 }
 
-// The test behind refusal 5: whether a grid with room for so many cells holds a frame's.
+// The test behind refusal 5: whether a grid with room for so many cells holds a frame's. A bool, as the definition is.
 pub fn grid_ok(width: usize, height: usize, room: usize) -> bool
     requires { (width ≤ largest_side) × (height ≤ largest_side) }
     ensures { result ≡ grid_ok width height room }
@@ -119,7 +121,7 @@ pub fn grid_ok(width: usize, height: usize, room: usize) -> bool
     (width / CELL_SIDE) * (height / CELL_SIDE) <= room
 }
 
-// The test behind refusal 5: the room of the grid, and that of a previous one.
+// The test behind refusal 5: the room of the grid, and that of a previous one. A bool, as the definition `grids_fit` is.
 #[tactic(auto, unfolding(crate::specs::Refusals::grids_fit))]
 pub fn grids_hold(width: usize, height: usize, prev: Option<GridRef<'_>>, room: usize) -> bool
     requires { (width ≤ largest_side) × (height ≤ largest_side) }

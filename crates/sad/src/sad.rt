@@ -132,7 +132,7 @@ impl BlockPair<'_> {
 }
 
 // The sum of absolute differences of two blocks of w by h samples where it is below the limit, else the limit. A BlockPair in place
-// of the seven numbers would come through memory: a run takes 3.7 % more instructions.
+// of the seven numbers would come through memory: a run takes 3.8 % more instructions.
 pub fn get_sad_below(
     cur: &[u8],
     src: usize,

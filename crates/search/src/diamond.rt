@@ -20,6 +20,7 @@ fn diamond_round(p: &BlockPlanes<'_>, center: MotionVector, radius_log2: u32) ->
 }
 
 // Moves by the diamond, first of radius 2 pixels, then of 1, until it finds no cheaper point.
+// The start is a plain record, as the definitions take it, so that its range stands in a clause.
 pub fn fullpel_diamond_search(p: &BlockPlanes<'_>, start: MotionSearchResult) -> MotionSearchResult
     requires { in_range p.now.block.range start.mv ≡ true }
     ensures { result ≡ diamond (rd_in p.now) start }

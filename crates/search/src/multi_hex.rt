@@ -21,6 +21,7 @@ fn cross_search(p: &BlockPlanes<'_>, current: MotionSearchResult) -> MotionSearc
 }
 
 // The 24 neighbours of the best so far, in eighths.
+// This stage and the next differ in their pattern alone; they stand apart, as the definitions name both.
 #[tactic(auto, unfolding(crate::specs::MultiHexagon::eighths_square, points::specs::Asked::Plain))]
 fn eighths_square_search(p: &BlockPlanes<'_>, current: MotionSearchResult) -> MotionSearchResult
     requires { Near current.mv }

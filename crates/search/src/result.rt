@@ -79,6 +79,7 @@ impl MotionSearchResult {
 }
 
 // Tries every point of a pattern round a centre that stays.
+// `Near` stays a clause: a centre is the vector of a record, which can hold any.
 pub(crate) fn try_pattern(
     p: &BlockPlanes<'_>,
     pattern: Pattern,

@@ -27,6 +27,7 @@ pub fn block_at(call: BlockCall) -> Block
 }
 
 // The block of a call at a weight, in the planes that are lent with it, or one of the refusals 1 to 4.
+// Four values, as the entry points pass them; what they are together is the BlockPlanes that comes back.
 pub fn open<'a>(
     call: BlockCall,
     cur: &'a [u8],

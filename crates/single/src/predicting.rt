@@ -33,6 +33,7 @@ impl Predictors {
     {
         match answer {
             Ok(p) => {
+                // Variables, as the check of borrows doesn't cover an array's field that goes straight into a literal.
                 let b = p.subset_b;
                 let c = p.subset_c;
                 Predictors {

@@ -13,6 +13,7 @@ use refusal::refusals::{grids_hold, level_ok, planes_test, side_ok};
 use superblock::step::superblock_step;
 
 // The tests behind refusals 1 to 5, in their order, of the lengths of the level's planes and of the grid's room.
+// Width and height stay two numbers, as the definitions and C have them.
 fn step_tests(
     width: usize,
     height: usize,

@@ -13,11 +13,11 @@ fn blocks_along(side: usize, mv_size: usize, b: usize) -> usize
     ensures { result ≡ blocks_along side mv_size b }
 {
     let left = side - CELL_SIDE * b;
-    (left.min(SB_SIZE) + (mv_size - 1)) / mv_size
+    left.min(SB_SIZE).div_ceil(mv_size)
 }
 
 // The blocks of a size in a superblock of a frame.
-#[derive(Clone, Copy)]
+#[derive(Clone, Copy, Debug, PartialEq, Eq)]
 pub(crate) struct Blocks {
     pub(crate) width: usize,
     pub(crate) height: usize,
@@ -48,7 +48,7 @@ impl Blocks {
         first + self.mv_size / CELL_SIDE * (k % blocks_along(self.width, self.mv_size, first))
     }
 
-    // The row of block k.
+    // The row of block k. It stands beside `x`, since the definitions name both.
     pub(crate) fn y(&self, k: usize) -> usize
         requires { k ≤ largest_side }
         ensures { result ≡ block_y self.now.width self.now.mv_size self.now.superblock k }

@@ -23,6 +23,7 @@ fn refined_count(level: usize, blocks: &Blocks) -> usize
 }
 
 // Whether no refinement of a step has an empty window. As `(0..count).all(..)` it was tried, and the proof didn't close.
+// The superblock stays beside what its level works with, which one run keeps for all superblocks of a list.
 fn windows_ok(inputs: &LevelInputs<'_>, superblock: usize, grid: &GridRef<'_>) -> bool
     requires inside { superblock < superblocks inputs.now.width inputs.now.height }
     requires in_bounds { (cells inputs.now.width inputs.now.height ≤ length grid.now.rows.now) × (cells inputs.now.width inputs.now.height ≤ length grid.now.cols.now) }
@@ -52,6 +53,7 @@ fn refine_sb_motion(inputs: &LevelInputs<'_>, superblock: usize, grid: &mut Grid
     ensures refined { lent_mut grid.new ≡ refinements (inputs_lent inputs.now) superblock (lent_mut grid.old) }
     ensures same { SameBuffers grid.old grid.new }
 {
+    // The same blocks as in `windows_ok`: a function for them would have a clause for each bound and field, and be no shorter.
     let blocks = Blocks {
         width: inputs.width,
         height: inputs.height,
@@ -95,6 +97,7 @@ fn estimate_sb_motion(
 }
 
 // One superblock at one level. Where a window is empty the grid stays as it stood.
+// Both grids are held by clauses: one is written, so that no ghost field could speak of what it holds.
 pub fn superblock_step(
     inputs: &LevelInputs<'_>,
     superblock: usize,
