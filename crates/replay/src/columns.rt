@@ -1,9 +1,8 @@
 ghost use Rattle.std.specs.Prelude.{◌≡◌, true};
 ghost use Rattle.replay.specs.Call.{Drawable};
 
-use crate::grids::CELLS;
+use crate::grids::{CELLS, LARGEST};
 use crate::numbers::{component, natural};
-use crate::planes::LARGEST;
 use crate::sample::{Content, SEEDS};
 use single::found::Found;
 

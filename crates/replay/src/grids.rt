@@ -2,6 +2,9 @@ ghost use Rattle.std.specs.Prelude.{◌≤◌, ◌<◌};
 
 use crate::sample::PRIME;
 
+// No side of a frame is longer than this.
+pub(crate) const LARGEST: usize = 136;
+
 // No frame has more cells on a side.
 pub(crate) const CELLS: usize = 34;
 

@@ -3,9 +3,6 @@ ghost use Rattle.std.specs.Prelude.{◌+◌, ◌≤◌, ◌<◌, length};
 use crate::columns::Call;
 use crate::sample::{Content, value};
 
-// No side of a frame is longer than this.
-pub(crate) const LARGEST: usize = 136;
-
 // The samples of a frame's planes at full, half and quarter size, one after the other, with the pads of 48, 40 and 20.
 pub(crate) const SAMPLES: usize = 81204;
 
