@@ -1,4 +1,4 @@
-ghost use Rattle.std.specs.Prelude.{◌≡◌, ◌≤◌};
+ghost use Rattle.std.specs.Prelude.{◌≡◌, ◌≤◌, min};
 ghost use Rattle.motion.specs.Limits.{largest_side};
 ghost use Rattle.grid.specs.Grid.{cell_at};
 
@@ -18,4 +18,11 @@ pub fn cell_at(width: usize, bx: usize, by: usize) -> usize
     ensures { result ≡ cell_at width bx by }
 {
     by * (width / CELL_SIDE) + bx
+}
+
+// How many cells the shortest of a grid's buffers has.
+pub fn room(rows: usize, cols: usize, sads: usize) -> usize
+    ensures { result ≡ min rows (min cols sads) }
+{
+    rows.min(cols.min(sads))
 }

@@ -3,7 +3,7 @@ ghost use Rattle.grid.specs.Grid.{grid_of, room, stored_at, stats_at, with_cell}
 ghost use Rattle.grid.specs.Previous.{previous};
 ghost use Rattle.grid.specs.Lent.{lent, lent_mut, SameBuffers, previous_lent, SamePrevious};
 
-use crate::cells::MEStats;
+use crate::cells::{MEStats, room};
 use motion::vector::MotionVector;
 
 // A grid lent to be read: its three buffers, as the C interface lends them.
@@ -19,7 +19,7 @@ impl GridRef<'_> {
     pub fn room(&self) -> usize
         ensures { result ≡ room (lent self.now) }
     {
-        self.rows.len().min(self.cols.len().min(self.sads.len()))
+        room(self.rows.len(), self.cols.len(), self.sads.len())
     }
 
     // The vector stored in a cell.

@@ -12,7 +12,7 @@ use grid::lent::{GridMut, GridRef};
 use motion::superblocks::superblocks_along;
 use order::list::list_test;
 use refusal::kinds::Refusal;
-use refusal::refusals::{grids_hold, planes_test, side_ok};
+use refusal::refusals::{grids_fit, planes_test, side_ok};
 
 // The tests behind refusals 1, 4 and 5, in their order, with the grid's room.
 // Width and height stay two numbers, as the definitions and C have them.
@@ -32,7 +32,7 @@ fn run_tests(
     planes_test(width, height, 4, cur.quarter.len(), reference.quarter.len())?;
     planes_test(width, height, 3, cur.half.len(), reference.half.len())?;
     planes_test(width, height, 2, cur.full.len(), reference.full.len())?;
-    if !grids_hold(width, height, prev, cells) {
+    if !grids_fit(width, height, prev, cells) {
         return Err(Refusal::Grid);
     }
     Ok(())

@@ -2,7 +2,7 @@ ghost use Rattle.std.specs.Prelude.{◌≡◌, ◌≤◌, ◌<◌};
 ghost use Rattle.motion.specs.Limits.{largest_side};
 ghost use Rattle.grid.specs.Lent.{previous_lent};
 ghost use Rattle.refusal.specs.Kinds.{code_of};
-ghost use Rattle.refusal.specs.Refusals.{side_ok, level_ok, size_of, start_ok, plane_ok, block_refusal, planes_refusal, call_refusal, grid_ok, grids_fit};
+ghost use Rattle.refusal.specs.Refusals.{side_ok, level_ok, size_of, start_ok, plane_ok, block_refusal, planes_refusal, call_refusal, grid_ok, grids_hold, grids_fit};
 
 use crate::kinds::Refusal;
 use grid::lent::GridRef;
@@ -121,9 +121,24 @@ pub fn grid_ok(width: usize, height: usize, room: usize) -> bool
     (width / CELL_SIDE) * (height / CELL_SIDE) <= room
 }
 
-// The test behind refusal 5: the room of the grid, and that of a previous one. A bool, as the definition `grids_fit` is.
+// The test behind refusal 5: the room of the grid, and of a previous one that a C call says is present. Two numbers, as C has them.
+#[tactic(auto, unfolding(crate::specs::Refusals::grids_hold))]
+pub fn grids_hold(
+    width: usize,
+    height: usize,
+    present: usize,
+    prev_room: usize,
+    room: usize,
+) -> bool
+    requires { (width ≤ largest_side) × (height ≤ largest_side) }
+    ensures { result ≡ grids_hold width height present prev_room room }
+{
+    grid_ok(width, height, room) && (present == 0 || grid_ok(width, height, prev_room))
+}
+
+// The same of a previous grid as it is lent. A bool, as the definition is.
 #[tactic(auto, unfolding(crate::specs::Refusals::grids_fit))]
-pub fn grids_hold(width: usize, height: usize, prev: Option<GridRef<'_>>, room: usize) -> bool
+pub fn grids_fit(width: usize, height: usize, prev: Option<GridRef<'_>>, room: usize) -> bool
     requires { (width ≤ largest_side) × (height ≤ largest_side) }
     ensures { result ≡ grids_fit width height (previous_lent prev.entry) room }
 {

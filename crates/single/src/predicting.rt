@@ -9,7 +9,7 @@ use grid::lent::GridRef;
 use motion::vector::MotionVector;
 use predict::predictors::{MotionEstimationSubsets, get_subset_predictors};
 use refusal::kinds::Refusal;
-use refusal::refusals::{BlockCall, grids_hold};
+use refusal::refusals::{BlockCall, grids_fit};
 
 // 0 or a refusal, and the predictors of a block. The C interface has it so.
 #[repr(C)]
@@ -87,7 +87,7 @@ pub fn predictors_of_block(
         by,
     };
     call.test()?;
-    if !grids_hold(width, height, prev, grid.room()) {
+    if !grids_fit(width, height, prev, grid.room()) {
         return Err(Refusal::Grid);
     }
     Ok(get_subset_predictors(width, height, level, bx, by, prev, grid))

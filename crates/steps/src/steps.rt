@@ -9,7 +9,7 @@ use estimate::inputs::LevelInputs;
 use grid::lent::{GridMut, GridRef};
 use motion::superblocks::superblocks_of;
 use refusal::kinds::Refusal;
-use refusal::refusals::{grids_hold, level_ok, planes_test, side_ok};
+use refusal::refusals::{grids_fit, level_ok, planes_test, side_ok};
 use superblock::step::superblock_step;
 
 // The tests behind refusals 1 to 5, in their order, of the lengths of the level's planes and of the grid's room.
@@ -36,7 +36,7 @@ fn step_tests(
         return Err(Refusal::Start);
     }
     planes_test(width, height, level, cur, reference)?;
-    if !grids_hold(width, height, prev, cells) {
+    if !grids_fit(width, height, prev, cells) {
         return Err(Refusal::Grid);
     }
     Ok(())

@@ -52,12 +52,12 @@ unfolding run_tests lengths_of refuse ◌then◌
 returns-in_err-planes_test-3 c =
     rw (sides (goal.at.returns-in_err-planes_test-3 c).Else-not-side_ok, quarter (goal.at.returns-in_err-planes_test-3 c).In_ok-planes_test, half (goal.at.returns-in_err-planes_test-3 c).In_ok-planes_test-2) (search (rules, err-then))
 
-pub grids_hold-requires : goal.grids_hold-requires
-grids_hold-requires c = short (goal.at.grids_hold-requires c).Else-not-side_ok
+pub grids_fit-requires : goal.grids_fit-requires
+grids_fit-requires c = short (goal.at.grids_fit-requires c).Else-not-side_ok
 
-pub returns-then-not-grids_hold : goal.returns-then-not-grids_hold
+pub returns-then-not-grids_fit : goal.returns-then-not-grids_fit
 unfolding run_tests lengths_of refuse ◌then◌
-returns-then-not-grids_hold c = grind (arith, common_steps, fit-of)
+returns-then-not-grids_fit c = grind (arith, common_steps, fit-of)
 
 pub returns : goal.returns
 unfolding run_tests lengths_of refuse ◌then◌

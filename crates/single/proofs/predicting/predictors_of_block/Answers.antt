@@ -13,7 +13,7 @@ use Rattle.refusal.proofs.GridsLaws.{Fitting, fitting, fit-is}
 use Rattle.predict.proofs.SubsetLaws.{Sound, subsets_sound, subsets-same_previous}
 use Rattle.single.specs.Predicting.{predictors_from, predictors_with, predictors_answer, predictors_refusal}
 use Rattle.single.proofs.AnswerLaws.{predictors-refused}
-use Rattle.single.proofs.predicting.predictors_of_block.Goals.{In_ok-test, Else-not-grids_hold}
+use Rattle.single.proofs.predicting.predictors_of_block.Goals.{In_ok-test, Else-not-grids_fit}
 use Rattle.single.proofs.predicting.predictors_of_block.Goals as goal
 
 -- refusals 1 to 3 passed
@@ -22,7 +22,7 @@ unfolding size_of
 placed c = accepted _ _ _ 0 _ _ (sym c.in_ok-test.ensures)
 
 -- and refusal 5
-fits : (c : Else-not-grids_hold) → let a = c.args in Fitting a.width a.height (previous_lent a.prev) (lent a.grid.now)
+fits : (c : Else-not-grids_fit) → let a = c.args in Fitting a.width a.height (previous_lent a.prev) (lent a.grid.now)
 fits c = fitting _ _ _ _ (cc)
 
 pub returns-in_err-test-clause-answer : goal.returns-in_err-test-clause-answer
@@ -33,14 +33,14 @@ returns-in_err-test-clause-answer c present before same =
     let some = number-some r in
     rw (p.1, p.2) (predictors-refused _ _ (err-then r _ _ c.in_err-test.ensures) (λ z. omega arith))
 
-pub grids_hold-requires : goal.grids_hold-requires
-grids_hold-requires c =
-    let block = placed (goal.at.grids_hold-requires c).In_ok-test in
+pub grids_fit-requires : goal.grids_fit-requires
+grids_fit-requires c =
+    let block = placed (goal.at.grids_fit-requires c).In_ok-test in
     (block.wide.most, block.high.most)
 
-pub returns-then-not-grids_hold-clause-answer : goal.returns-then-not-grids_hold-clause-answer
+pub returns-then-not-grids_fit-clause-answer : goal.returns-then-not-grids_fit-clause-answer
 unfolding predictors_from predictors_answer predictors_refusal
-returns-then-not-grids_hold-clause-answer c present before same =
+returns-then-not-grids_fit-clause-answer c present before same =
     let a = c.args in
     let is = fit-is a.width a.height present (room (lent a.grid.now)) before (previous_lent a.prev) same in
     let short : grids_hold a.width a.height present (room before) (room (lent a.grid.now)) ≡ false = cc in

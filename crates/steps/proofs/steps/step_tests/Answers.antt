@@ -42,12 +42,12 @@ unfolding step_tests refuse ◌then◌
 returns-in_err-planes_test c =
     rw (sides (goal.at.returns-in_err-planes_test c).Else-not-side_ok) (search (rules, err-then))
 
-pub grids_hold-requires : goal.grids_hold-requires
-grids_hold-requires c = short (goal.at.grids_hold-requires c).Else-not-side_ok
+pub grids_fit-requires : goal.grids_fit-requires
+grids_fit-requires c = short (goal.at.grids_fit-requires c).Else-not-side_ok
 
-pub returns-then-not-grids_hold : goal.returns-then-not-grids_hold
+pub returns-then-not-grids_fit : goal.returns-then-not-grids_fit
 unfolding step_tests refuse ◌then◌
-returns-then-not-grids_hold c = grind (arith, common_steps, fit-of)
+returns-then-not-grids_fit c = grind (arith, common_steps, fit-of)
 
 pub returns : goal.returns
 unfolding step_tests refuse ◌then◌
