@@ -6,7 +6,7 @@ ghost use Rattle.passes.specs.Again.{block_cells};
 
 use gridfile::extent::Extent;
 use listing::lines::LINE;
-use passes::again::{Again, BLOCK};
+use passes::again::{BLOCK, Reopened};
 use passes::output::write;
 use records::limits::CELL_BYTES;
 use report::steps::Report;
@@ -15,8 +15,8 @@ use text::writer::Writer;
 // Both files gone through again beside each other, and the report so far.
 #[derive(Drop)]
 struct Pass {
-    first: Again,
-    second: Again,
+    first: Reopened,
+    second: Reopened,
     report: Report,
 }
 
@@ -68,8 +68,8 @@ fn write_last(rt: &HostRuntime, report: Report) -> Option<()> {
 // can't be read or changed, or a line can't be written.
 pub(crate) fn compare(rt: &HostRuntime, extent: Extent, first: u64, second: u64) -> Option<()> {
     let mut pass = Pass {
-        first: Again::open(rt, 1)?,
-        second: Again::open(rt, 2)?,
+        first: Reopened::open(rt, 1)?,
+        second: Reopened::open(rt, 2)?,
         report: Report::new(extent.columns),
     };
     pass.first.pass_header();

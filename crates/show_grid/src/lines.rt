@@ -7,7 +7,7 @@ ghost use Rattle.passes.specs.Again.{block_cells};
 use gridfile::extent::Extent;
 use listing::blocks::Listing;
 use listing::lines::{LINE, put_heading};
-use passes::again::{Again, BLOCK};
+use passes::again::{BLOCK, Reopened};
 use passes::output::write;
 use records::limits::CELL_BYTES;
 use text::writer::Writer;
@@ -15,7 +15,7 @@ use text::writer::Writer;
 // The file gone through again, and the listing so far.
 #[derive(Drop)]
 struct Pass {
-    file: Again,
+    file: Reopened,
     listing: Listing,
 }
 
@@ -67,7 +67,7 @@ fn write_heading(rt: &HostRuntime, extent: Extent) -> Option<()> {
 
 // The listing of a file that was checked; none, with words, where it can't be read, changed or can't be written.
 pub(crate) fn show(rt: &HostRuntime, extent: Extent, checked: u64) -> Option<()> {
-    let mut file = Again::open(rt, 1)?;
+    let mut file = Reopened::open(rt, 1)?;
     write_heading(rt, extent)?;
     file.pass_header();
     let listing = Listing::new(extent.columns);
