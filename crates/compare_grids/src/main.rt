@@ -22,6 +22,7 @@ use passes::words::say;
 use records::limits::MOST_FILE_CELLS;
 use words::say_refused;
 
+#[tactic(auto, using(crate::proofs::Accepted::accepted))]
 fn main(rt: HostRuntime) {
     if argument_count(&rt) != 3 {
         say(
@@ -43,10 +44,8 @@ fn main(rt: HostRuntime) {
         MOST_FILE_CELLS,
     ) {
         write_refused(&rt, code);
-        say_refused(&rt, first, second);
-        return;
+        return say_refused(&rt, first, second);
     }
-    if let Ok(extent) = first.extent {
-        let _ = compare(&rt, extent, first.sum, second.sum);
-    }
+    // With no refusal the first file has none.
+    let _ = compare(&rt, first.extent.unwrap(), first.sum, second.sum);
 }
