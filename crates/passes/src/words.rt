@@ -52,6 +52,19 @@ pub fn say_changed(rt: &HostRuntime, which: usize) {
 }
 
 // A refusal's number, and what it means.
-pub fn say_meaning(rt: &HostRuntime, refusal: Refusal) {
+pub fn say_refusal(rt: &HostRuntime, refusal: Refusal) {
     let _ = eprintln!(rt; ": refused {}: {refusal}", refusal.number());
+}
+
+// Which file was refused, by the number of what a header or a record can be refused for, and what it means.
+pub fn say_meaning(rt: &HostRuntime, which: usize, number: u32) {
+    say_name(rt, which);
+    say_refusal(
+        rt,
+        match number {
+            10 => Refusal::Mark,
+            11 => Refusal::Length,
+            _ => Refusal::Odd,
+        },
+    );
 }

@@ -15,7 +15,7 @@ use given::arguments::argument_count;
 use lines::show;
 use passes::files::check_named;
 use passes::output::write_refused;
-use passes::words::{say, say_meaning, say_name};
+use passes::words::{say, say_meaning};
 
 fn main(rt: HostRuntime) {
     if argument_count(&rt) != 2 {
@@ -31,8 +31,7 @@ fn main(rt: HostRuntime) {
         }
         Err(refusal) => {
             write_refused(&rt, refusal.number());
-            say_name(&rt, 1);
-            say_meaning(&rt, refusal);
+            say_meaning(&rt, 1, refusal.number());
         }
     }
 }
