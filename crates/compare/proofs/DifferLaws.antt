@@ -39,7 +39,7 @@ module _ (f g : Grid) (from to : ℕ) where
   find_differs = rw (filtered (differs_at f g) from (to - from)) (found_first (differs_at f g) (range_with_len from (to - from)) to)
 
 module _ (f g : Grid) (i to : ℕ) where
-  none_left : to ≤ i → differing f g i to ≡ []
+  pub none_left : to ≤ i → differing f g i to ≡ []
   unfolding differing places_from
   none_left h =
       let no-places : to - i ≡ 0 = omega arith in
@@ -51,10 +51,10 @@ module _ (f g : Grid) (i to : ℕ) where
       let places : to - i ≡ suc (to - (i + 1)) = omega arith in
       rw (places, add-one)
 
-  differs_here : i < to → differs_at f g i ≡ true → differing f g i to ≡ i ∷ differing f g (i + 1) to
+  pub differs_here : i < to → differs_at f g i ≡ true → differing f g i to ≡ i ∷ differing f g (i + 1) to
   differs_here h e = one_more h ∙ ap (λ (t : Bool). cond t (i ∷ differing f g (i + 1) to) (differing f g (i + 1) to)) e
 
-  same_here : i < to → differs_at f g i ≡ false → differing f g i to ≡ differing f g (i + 1) to
+  pub same_here : i < to → differs_at f g i ≡ false → differing f g i to ≡ differing f g (i + 1) to
   same_here h e = one_more h ∙ ap (λ (t : Bool). cond t (i ∷ differing f g (i + 1) to) (differing f g (i + 1) to)) e
 
 -- the first place that differs: none before it does
