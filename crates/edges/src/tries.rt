@@ -52,6 +52,20 @@ fn edges_of(rt: &impl Print, call: Call, flat: &[u8]) {
     }
 }
 
+// The numbers of a list. A label goes with its number: each piece is a write of its own.
+fn say_list(rt: &impl Print, list: &[u16]) {
+    if list.is_empty() {
+        text(rt, b"list empty, ");
+        return;
+    }
+    let mut label: &[u8] = b"list ";
+    for superblock in list {
+        labelled(rt, label, *superblock as u64);
+        label = b" ";
+    }
+    text(rt, b", ");
+}
+
 // A list of superblocks of a frame that has two side by side.
 fn listed(rt: &impl Print, list: &[u16], flat: &[u8]) {
     let case = Case {
@@ -61,14 +75,7 @@ fn listed(rt: &impl Print, list: &[u16], flat: &[u8]) {
         cells: 64,
         lent: Lent::Longer,
     };
-    text(rt, b"list");
-    if list.is_empty() {
-        text(rt, b" empty");
-    }
-    for superblock in list {
-        labelled(rt, b" ", *superblock as u64);
-    }
-    text(rt, b", ");
+    say_list(rt, list);
     tried(rt, case, flat, list);
 }
 
