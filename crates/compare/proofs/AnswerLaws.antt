@@ -3,7 +3,8 @@ use Rattle.std.proofs.Common.{min, count_by, unwrap_or}
 use Rattle.std.specs.List.{range_with_len, find}
 use Rattle.std.proofs.lemmas.Bool.Decides.{nat_tests}
 use mathlib.Core.Path.{◌≡◌, ap, ◌∙◌}
-use Prim.Native.Nat.{ℕ, ◌*◌, ◌-◌, ◌<◌}
+use Prim.Native.Nat.{ℕ, ◌*◌, ◌-◌, ◌≤◌, ◌<◌, ◌^◌}
+use native.Mathlib.Nat.{mul-le-mul}
 use native.Mathlib.Omega.{arith}
 use borrow.Author.Tests.{eq-eqb, ne_eqb}
 use lib.Dec.{leb}
@@ -14,6 +15,12 @@ use Rattle.gridfile.specs.declared.read.Shape.{Shape}
 use Rattle.compare.specs.Differ.{differs_at, differing}
 use Rattle.compare.specs.Answer.{compare_refusal, comparison_of, compare_answer, next_answer}
 use Rattle.compare.proofs.DifferLaws.{count_differs, find_differs, from_first}
+
+-- columns times rows is a number of 64 bits
+pub cells-most : {columns rows : ℕ} → columns < 2 ^ 32 → rows < 2 ^ 32 → columns * rows < 2 ^ 64
+cells-most {columns} {rows} wide high =
+    let most : columns * rows ≤ (2 ^ 32 - 1) * (2 ^ 32 - 1) = mul-le-mul {n₁ = columns} {m₁ = rows} {n₂ = 2 ^ 32 - 1} {m₂ = 2 ^ 32 - 1} (omega arith) (omega arith) in
+    omega arith
 
 -- the grid with less room decides
 less_room : (cells n m : ℕ) → refuse 13 (leb cells n) then refuse 13 (leb cells m) ≡ refuse 13 (leb cells (min n m))

@@ -8,7 +8,10 @@ use native.Mathlib.Omega.{arith}
 use borrow.Author.Tests.{leb-true, le-leb, eqb-true, eq-eqb, not-true, not-false}
 use lib.Dec.{leb, eqb}
 use lib.IntN.{ℤ, pos, negsuc}
-use Rattle.ground.proofs.TestLaws.{both, not_so}
+use mir.Syntax.{w16}
+use mir.Val.{SFits, of_z, to_z}
+use mir.ValLaws.{to_z-of_z}
+use Rattle.ground.proofs.TestLaws.{both, same, not_so}
 use Rattle.grid.specs.declared.cells.MEStats.{MEStats}
 use Rattle.grid.specs.Grid.{Grid, stats_at}
 use Rattle.compare.specs.Differ.{eq_z, same_cell, differs_at}
@@ -33,6 +36,13 @@ same_number (negsuc n) = rw (le-leb n n (omega arith))
 
 number_is : {a b : ℤ} → a ≡ b → eq_z a b ≡ true
 number_is {a} e = subst (λ (z : ℤ). eq_z a z ≡ true) e (same_number a)
+
+-- components are held in bits
+pub bits_decide : {x y : ℤ} → SFits w16 x → SFits w16 y → eqb (of_z w16 x) (of_z w16 y) ≡ eq_z x y
+bits_decide {x} {y} f g =
+    same (eqb (of_z w16 x) (of_z w16 y)) (eq_z x y)
+    (λ h. number_is (sym (to_z-of_z w16 x f) ∙ ap (to_z w16) (eqb-true (of_z w16 x) (of_z w16 y) h) ∙ to_z-of_z w16 y g))
+    (λ h. eq-eqb (of_z w16 x) (of_z w16 y) (ap (of_z w16) (number_of x y h)))
 
 -- the test of a derived equality is the same
 pub tests_agree : (a b : ℤ) → int_eq a b ≡ eq_z a b

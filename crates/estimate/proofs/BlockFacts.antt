@@ -14,11 +14,11 @@ use Rattle.ground.proofs.TestLaws.{both, either as one_of}
 use Rattle.motion.specs.declared.block.Block.{Block}
 use Rattle.motion.specs.declared.level.Level.{Level}
 use Rattle.motion.specs.declared.vector.MotionVector.{MotionVector}
-use Rattle.motion.specs.Limits.{largest_side, largest_sample}
+use Rattle.motion.specs.Limits.{cell_side, largest_side, largest_sample}
 use Rattle.motion.specs.Vector.{zero_v, FitsV, shl_v}
 use Rattle.motion.specs.Range.{in_range}
 use Rattle.motion.specs.Level.{level_of}
-use Rattle.motion.specs.Frame.{Starts, Sized, own4, own3, own2, refined3, refined2}
+use Rattle.motion.specs.Frame.{Side, Starts, Sized, own4, own3, own2, refined3, refined2}
 use Rattle.motion.specs.Block.{block_of, weighed}
 use Rattle.motion.proofs.BlockLaws.{zero-in_range, Straddles, straddles, shl_fits, some-columns, some-rows}
 use Rattle.motion.proofs.LevelLaws.{each_level}
@@ -85,6 +85,11 @@ refined_sized two = refined2
 pub level-most : (level : ℕ) → ((level_of level).ssdec < 16) × ((level_of level).pad ≤ largest_side) × ((level_of level).mv_size ≤ largest_side) × ((level_of level).refined ≤ largest_side)
 level-most level =
     each_level (λ (l : Level). (l.ssdec < 16) × (l.pad ≤ largest_side) × (l.mv_size ≤ largest_side) × (l.refined ≤ largest_side)) (omega arith) (omega arith) (omega arith) level
+
+-- and of its place
+pub place-most : {width height size bx by : ℕ} → Side width → Side height → Starts width size bx → Starts height size by
+    → (cell_side * bx ≤ width) × (width ≤ largest_side) × (cell_side * by ≤ height) × (height ≤ largest_side)
+place-most wide high across down = omega (arith, wide, high, across, down)
 
 -- a block's first cell is one of those that a frame's grid holds
 pub cell-held : {width height size bx by n : ℕ} → Starts width size bx → Starts height size by → cells width height ≤ n → cell_at width bx by < n

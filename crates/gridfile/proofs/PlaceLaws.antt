@@ -7,12 +7,14 @@ use mathlib.Core.Logic.{⊎_elim}
 use Prim.Native.Nat.{ℕ, zero, suc, ◌+◌, ◌-◌, ◌*◌, ◌≤◌, ◌<◌}
 use native.Mathlib.Nat.{add_assoc}
 use native.Mathlib.Omega.{arith}
+use borrow.Author.Tests.{ltb-true, lt-ltb}
+use lib.Dec.{ltb}
 use lib.ListN.{length, get_or, take, drop, length-drop, drop_of_length-le}
 use lib.Seq.{drop-cons, get_or-drop, take_all}
 use Rattle.ground.specs.Every.{all_below}
-use Rattle.ground.proofs.TestLaws.{tested, both}
+use Rattle.ground.proofs.TestLaws.{tested, both, same}
 use Rattle.ground.proofs.EveryLaws.{below_same}
-use Rattle.refusal.specs.Refusals.{◌then◌}
+use Rattle.refusal.specs.Refusals.{refuse, ◌then◌}
 use Rattle.records.specs.Forms.{plain_forms, mark, header_bytes, cell_bytes}
 use Rattle.records.specs.Records.{file_bytes}
 use Rattle.gridfile.specs.Reading.{State, head_of, between, begun, marked, taken, ended}
@@ -122,6 +124,22 @@ module _ (room columns rows k : ℕ) (wide : 0 < columns) (more : k < columns * 
       ⊎_elim (λ e. tail_begun a rest few e)
       (λ e. wrong_mark room columns rows k wide more [] rest a e ∙ is_number (a ∷ rest) (mark-first (a ∷ rest) 0 (omega arith) e) refl)
       (tested (marked mark 0 a))
+
+-- a mark by its place in the file
+module _ (file : List ℕ) (p : ℕ) where
+  there_place : (i j : ℕ) → p + i ≡ j → ltb i (length (drop p file)) ≡ ltb j (length file)
+  there_place i j e =
+      let left = length-drop p file in
+      same (ltb i (length (drop p file))) (ltb j (length file)) (λ t. lt-ltb j (length file) (omega (arith, left, ltb-true i (length (drop p file)) t))) (λ t. lt-ltb i (length (drop p file)) (omega (arith, left, ltb-true j (length file) t)))
+
+  byte_place : (i j : ℕ) → p + i ≡ j → get_or (drop p file) i 0 ≡ get_or file j 0
+  byte_place i j e = get_or-drop p file i 0 ∙ ap (λ (n : ℕ). get_or file n 0) e
+
+  pub mark-place : mark_number (drop p file) 0 ≡ mark_number file p
+  mark-place =
+      let here : p + 0 ≡ p = omega arith in
+      ap₂ (λ (s : Bool) (a : ℕ). refuse 11 s then refuse 10 (marked mark 0 a) then refuse 11 (ltb 1 (length (drop p file))) then refuse 10 (marked mark 1 (get_or (drop p file) 1 0))) (there_place 0 p here) (byte_place 0 p here)
+      ∙ ap₂ (λ (s : Bool) (b : ℕ). refuse 11 (ltb p (length file)) then refuse 10 (marked mark 0 (get_or file p 0)) then refuse 11 s then refuse 10 (marked mark 1 b)) (there_place 1 (p + 1) refl) (byte_place 1 (p + 1) refl)
 
 -- what a slice from a place to the end holds
 pub from_place : (file : List ℕ) (p : ℕ) → take (length file - p) (drop p file) ≡ drop p file

@@ -1,14 +1,14 @@
 -- Signed numbers as natural ones: z stands as z + 2 ^ 40, so that omega, which reads ℕ alone, settles what is linear.
 -- Each law asks that the numbers are below 2 ^ 38 in size, which every vector, range and place here is. Assumes nothing.
-use mathlib.Core.Path.{◌≡◌, refl, sym, ◌∙◌}
-use mathlib.Core.Bool.{Bool, true, false, cond}
+use mathlib.Core.Path.{◌≡◌, refl, sym, ap, ◌∙◌}
+use mathlib.Core.Bool.{Bool, true, false, not, cond}
 use Prim.Native.Nat.{ℕ, zero, suc, ◌+◌, ◌-◌, ◌*◌, ◌/◌, ◌^◌, ◌≤◌, ◌<◌, zero-le}
 use native.Mathlib.Nat.{le-suc, le_of_suc-le-suc, lt_irrefl, lt_of_lt_of_le, lt_of_not-le, mul-le-mul_right}
 use native.Mathlib.Omega.{arith}
 use borrow.Author.Tests.{ltb-true, ltb-false, lt-ltb, le-ltb, le-leb, lt-leb, leb-true, leb-false}
 use lib.Dec.{ltb, leb}
 use lib.IntN.{ℤ, pos, negsuc, neg_ℤ, nat_abs, sub_ℕ, ◌+ℤ◌, ◌-ℤ◌, ◌*ℤ◌}
-use lib.Signed.{mag, lt_z, le_z, non_neg, quot_z}
+use lib.Signed.{mag, lt_z, le_z, non_neg, quot_z, shr_z}
 
 abbrev pub bias : ℤ → ℕ
 bias (pos n) = 2 ^ 40 + n
@@ -73,6 +73,14 @@ pub mag-mul : (a : ℤ) (k : ℕ) → mag (a *ℤ pos k) ≤ suc (mag a) * k
 mag-mul (pos n) k = mul-le-mul_right k (le-suc n)
 mag-mul (negsuc n) k = mag-neg (suc n * k) (le-suc (suc n * k))
 
+pub bias_shr2 : (a : ℤ) → Small a → bias (shr_z a 2) ≡ 2 ^ 39 + bias a / 2
+bias_shr2 (pos n) h = omega arith
+bias_shr2 (negsuc n) h = omega arith
+
+pub bias_shr4 : (a : ℤ) → Small a → bias (shr_z a 4) ≡ 3 * 2 ^ 38 + bias a / 4
+bias_shr4 (pos n) h = omega arith
+bias_shr4 (negsuc n) h = omega arith
+
 -- division by 8 toward zero, on either side of 0
 pub bias_quot_up : (a : ℤ) → 2 ^ 40 ≤ bias a → Small a → bias (quot_z a (pos 8)) ≡ 2 ^ 40 + (bias a - 2 ^ 40) / 8
 bias_quot_up (pos n) h s = omega arith
@@ -101,6 +109,24 @@ lt_z-bias (pos a) (pos b) ha hb = leb-same (suc a) b (suc (2 ^ 40 + a)) (2 ^ 40 
 lt_z-bias (pos a) (negsuc b) ha hb = sym (le-ltb (2 ^ 40 + a) (2 ^ 40 - suc b) (omega arith))
 lt_z-bias (negsuc a) (pos b) ha hb = sym (lt-ltb (2 ^ 40 - suc a) (2 ^ 40 + b) (omega arith))
 lt_z-bias (negsuc a) (negsuc b) ha hb = leb-same (suc b) a (suc (2 ^ 40 - suc a)) (2 ^ 40 - suc b) (λ h. omega arith) (λ h. omega arith)
+
+-- one order is the other's negation
+leb-not : (a b : ℕ) (t : Bool) → ltb b a ≡ t → leb a b ≡ not t
+leb-not a b true e = lt-leb a b (ltb-true b a e)
+leb-not a b false e = le-leb a b (ltb-false b a e)
+
+pub le_z-not_lt : (a b : ℤ) → le_z a b ≡ not (lt_z b a)
+le_z-not_lt (pos a) (pos b) = leb-not a b (ltb b a) refl
+le_z-not_lt (pos a) (negsuc b) = refl
+le_z-not_lt (negsuc a) (pos b) = refl
+le_z-not_lt (negsuc a) (negsuc b) = leb-not b a (ltb a b) refl
+
+-- two numbers with one bias are one
+pub bias_inj : (a b : ℤ) → Small a → Small b → bias a ≡ bias b → a ≡ b
+bias_inj (pos a) (pos b) ha hb e = ap pos (omega arith)
+bias_inj (pos a) (negsuc b) ha hb e = absurd (omega arith)
+bias_inj (negsuc a) (pos b) ha hb e = absurd (omega arith)
+bias_inj (negsuc a) (negsuc b) ha hb e = ap negsuc (omega arith)
 
 -- no negative number, and its size
 pub up-bias : (z : ℤ) → 2 ^ 40 ≤ bias z → (non_neg z ≡ true) × (nat_abs z + 2 ^ 40 ≡ bias z)

@@ -37,6 +37,15 @@ pub eighth_bounds : (z : ℤ) → SFits w16 z → (2 ^ 40 ≤ bias (quot_z z (po
 eighth_bounds (pos n) f = omega (arith, f.sfits)
 eighth_bounds (negsuc n) f = omega (arith, f.sfits, bias_negpos (suc n / 8) (omega (arith, f.sfits)))
 
+-- a component cut to whole pixels is no larger
+cut-neg : (r n : ℕ) → r * 8 ≤ suc n → mag (neg_ℤ (pos r) *ℤ pos 8) ≤ n
+cut-neg zero n h = omega arith
+cut-neg (suc r) n h = mag-neg (suc r * 8) h
+
+pub mag-cut : (z : ℤ) → mag (quot_z z (pos 8) *ℤ pos 8) ≤ mag z
+mag-cut (pos n) = omega arith
+mag-cut (negsuc n) = cut-neg (suc n / 8) n (omega arith)
+
 -- a shift left by k = 2 ^ s, of the bits, is the multiple where that fits
 shl_neg : (n k x : ℕ) → suc n * suc k ≡ x → n < 2 ^ 15 → mag (neg_ℤ (pos x)) < 2 ^ 15 → to_z w16 (((2 ^ 16 - suc n) * suc k) % 2 ^ 16) ≡ neg_ℤ (pos x)
 shl_neg n k zero e f h = absurd (omega (arith, mul-pos {m = suc n} {n = suc k} (zero-lt-suc n) (zero-lt-suc k)))

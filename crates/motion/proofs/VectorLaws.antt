@@ -1,11 +1,13 @@
 -- Laws of vectors. Assumes nothing.
+use mathlib.Core.Path.{◌≡◌}
 use Prim.Native.Nat.{ℕ, suc, ◌*◌, ◌≤◌, suc-le-suc}
 use native.Mathlib.Nat.{le_trans, mul-le-mul_right}
 use native.Mathlib.Omega.{arith}
 use lib.IntN.{ℤ, pos, negsuc, nat_abs}
 use lib.Signed.{mag}
 use mir.Syntax.{w16}
-use mir.Val.{SFits}
+use mir.Val.{SFits, to_z, of_z}
+use mir.ValLaws.{to_z-of_z}
 use Rattle.ground.proofs.Bias.{mag-add, mag-mul}
 use Rattle.motion.specs.declared.vector.MotionVector.{MotionVector}
 use Rattle.motion.specs.Vector.{FitsV, plus_v, times_v}
@@ -14,6 +16,10 @@ use Rattle.motion.specs.Asked.{Near}
 -- a vector of two numbers
 abbrev pub vector : ℤ → ℤ → MotionVector
 vector r c = record { row = r; col = c }
+
+-- a vector made of two parameters, whose bits the machine holds
+pub vector_back : {r c : ℤ} → SFits w16 r → SFits w16 c → vector (to_z w16 (of_z w16 r)) (to_z w16 (of_z w16 c)) ≡ vector r c
+vector_back {r} {c} fr fc = λ i. vector (to_z-of_z w16 r fr i) (to_z-of_z w16 c fc i)
 
 -- offsets of at most 1,024, which every pattern's are
 pub record Short (v : MotionVector) : Type 0 where

@@ -5,7 +5,7 @@ use mathlib.Core.Logic.{◌⊎◌, inl, inr}
 use Prim.Native.Nat.{ℕ, zero, suc, ◌+◌, ◌-◌, ◌*◌, ◌/◌, ◌%◌, ◌^◌, ◌≤◌, ◌<◌}
 use native.Mathlib.Nat.{le_trans, add-mul, mul-le-mul_right, mod-lt, div-add-mod', le-div_iff_mul-le, pow-suc}
 use native.Mathlib.Omega.{arith}
-use borrow.Author.Tests.{lt-ltb}
+use borrow.Author.Tests.{lt-ltb, le-ltb}
 use lib.Dec.{ltb}
 use lib.Pow.{pow_pos, pow-add}
 use Rattle.motion.specs.Rate.{bit_length_in}
@@ -14,9 +14,17 @@ use Rattle.predict.specs.Threshold.{unit24, nearest, round24}
 
 -- the nearest multiple, by twice the rest
 module _ (unit n : ℕ) where
-  nearest-below : 2 * (n % unit) < unit → nearest unit n ≡ n / unit
+  pub nearest-below : 2 * (n % unit) < unit → nearest unit n ≡ n / unit
   unfolding nearest
   nearest-below h = rw (lt-ltb (2 * (n % unit)) unit h)
+
+  pub nearest-above : unit < 2 * (n % unit) → nearest unit n ≡ n / unit + 1
+  unfolding nearest
+  nearest-above h = rw (le-ltb (2 * (n % unit)) unit (omega (arith, h)), lt-ltb unit (2 * (n % unit)) h)
+
+  pub nearest-tie : unit ≡ 2 * (n % unit) → nearest unit n ≡ n / unit + n / unit % 2
+  unfolding nearest
+  nearest-tie h = rw (le-ltb (2 * (n % unit)) unit (omega (arith, h)), le-ltb unit (2 * (n % unit)) (omega (arith, h)))
 
 -- it is the one below or the next
 nearest-by : (below : ℕ) (s t : Bool) → let r = cond s below (cond t (below + 1) (below + below % 2)) in (below ≤ r) × (r ≤ below + 1)

@@ -119,6 +119,15 @@ lent width height level n m e =
     let parts = both (plane_ok width height level n) (plane_ok width height level m) (passes 3 (plane_ok width height level n && plane_ok width height level m) e) in
     record { cur = leb-true _ n parts.0; ref = leb-true _ m parts.1 }
 
+-- and the only number that it gives
+pub planes_short : (width height level n m : ℕ) → (planes_refusal width height level n m ≡ 0 → ⊥) → planes_refusal width height level n m ≡ 4
+unfolding planes_refusal refuse
+planes_short width height level n m h = go (plane_ok width height level n && plane_ok width height level m) h
+  where
+    go : (t : Bool) → (◌≡◌ {A = ℕ} (cond t 0 4) 0 → ⊥) → ◌≡◌ {A = ℕ} (cond t 0 4) 4
+    go true h = absurd (h refl)
+    go false h = refl
+
 -- what refusal 5 leaves, and where it does not come
 pub held : (width height : ℕ) (g : Grid) → grid_ok width height (room g) ≡ true → Held width height g
 unfolding grid_ok room

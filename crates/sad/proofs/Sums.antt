@@ -2,7 +2,7 @@
 use mathlib.Core.Path.{◌≡◌, refl, sym, ap, ap₂, ◌∙◌}
 use mathlib.Core.List.{List, ◌∷◌}
 use Prim.Native.Nat.{ℕ, zero, suc, ◌+◌, ◌-◌, ◌*◌, ◌≤◌, ◌<◌, zero-le}
-use native.Mathlib.Nat.{add-zero, add-suc, add_assoc, le-suc, le_refl, mul-suc, add-le-add, le_trans, le_of_eq}
+use native.Mathlib.Nat.{add-zero, add-suc, add_assoc, add-mul, le-suc, le_refl, mul-suc, add-le-add, le_trans, le_of_eq}
 use native.Mathlib.Numerals.{add-one}
 use native.Mathlib.Omega.{arith}
 use lib.ListN.{get_or, length, take, drop}
@@ -46,11 +46,15 @@ pub diff_le : (a b m : ℕ) → a ≤ m → b ≤ m → abs_diff a b ≤ m
 unfolding abs_diff
 diff_le a b m ha hb = omega arith
 
--- nothing yet, and one row more
+-- a loop that has passed some columns, or rows, passes one more
 module _ (cur : List ℕ) (src : ℕ) (ref : List ℕ) (dst : ℕ) where
   pub row-none : sad_row cur src ref dst 0 ≡ 0
   unfolding sad_row sum_to
   row-none = refl
+
+  pub row_more : (x : ℕ) → sad_row cur src ref dst (x + 1) ≡ sad_row cur src ref dst x + abs_diff (get_or cur (src + x) 0) (get_or ref (dst + x) 0)
+  unfolding sad_row
+  row_more x = sum_more x (λ i. abs_diff (get_or cur (src + i) 0) (get_or ref (dst + i) 0))
 
   pub block_none : (stride w : ℕ) → sad_block cur src ref dst stride w 0 ≡ 0
   unfolding sad_block sum_to
@@ -59,6 +63,16 @@ module _ (cur : List ℕ) (src : ℕ) (ref : List ℕ) (dst : ℕ) where
   pub block_more : (stride w y : ℕ) → sad_block cur src ref dst stride w (y + 1) ≡ sad_block cur src ref dst stride w y + sad_row cur (src + y * stride) ref (dst + y * stride) w
   unfolding sad_block
   block_more stride w y = sum_more y (λ i. sad_row cur (src + i * stride) ref (dst + i * stride) w)
+
+module _ (cur : List ℕ) (src : ℕ) (ref : List ℕ) (dst stride : ℕ) where
+  -- h rows, then g more
+  pub block_then : (w h g : ℕ) → sad_block cur src ref dst stride w (h + g) ≡ sad_block cur src ref dst stride w h + sad_block cur (src + h * stride) ref (dst + h * stride) stride w g
+  unfolding sad_block
+  block_then w h g =
+      let below : (s y : ℕ) → s + (h + y) * stride ≡ s + h * stride + y * stride = λ s y. ap (λ (n : ℕ). s + n) (add-mul h y stride) ∙ sym (add_assoc s (h * stride) (y * stride)) in
+      sum_then h g (λ y. sad_row cur (src + y * stride) ref (dst + y * stride) w)
+      ∙ ap (λ (n : ℕ). sad_block cur src ref dst stride w h + n)
+      (sum_same g (λ y. sad_row cur (src + (h + y) * stride) ref (dst + (h + y) * stride) w) (λ y. sad_row cur (src + h * stride + y * stride) ref (dst + h * stride + y * stride) w) (λ y p. ap₂ (λ (s d : ℕ). sad_row cur s ref d w) (below src y) (below dst y)))
 
 -- v columns, then w more
 pub row-then : (cur : List ℕ) (src : ℕ) (ref : List ℕ) (dst v w : ℕ) → sad_row cur src ref dst (v + w) ≡ sad_row cur src ref dst v + sad_row cur (src + v) ref (dst + v) w

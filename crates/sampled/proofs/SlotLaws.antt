@@ -1,10 +1,10 @@
--- Laws of five slots: the next one filled, all of them counted, and any of them read. Assumes nothing.
+-- Laws of five slots: the next one filled, all of them counted, the filled ones taken, and any of them read. Assumes nothing.
 use mathlib.Core.Path.{◌≡◌, refl, sym, ap, ◌∙◌}
 use mathlib.Core.List.{List, [], ◌∷◌, ◌++◌, append_assoc}
 use Prim.Native.Nat.{ℕ, zero, suc, ◌-◌, ◌≤◌, ◌<◌}
 use native.Mathlib.Omega.{arith}
-use lib.ListN.{length, get_or, set, replicate, length-append, length-replicate}
-use lib.Seq.{set-append_seam}
+use lib.ListN.{length, take, get_or, set, replicate, length-append, length-replicate}
+use lib.Seq.{take-append_seam, set-append_seam}
 use Rattle.sampled.specs.Slots.{slots, slotted}
 
 padded : {A : Type 0} (z : A) (xs : List A) (n k : ℕ) → get_or (xs ++ replicate n z) k z ≡ get_or xs k z
@@ -35,6 +35,11 @@ module _ {A : Type 0} (z : A) (xs : List A) where
       let left : slots - length xs ≡ suc (slots - length (xs ++ (z ∷ []))) = simp length-append (omega arith) in
       append_assoc xs (z ∷ []) (replicate (slots - length (xs ++ (z ∷ []))) z)
       ∙ ap (λ (n : ℕ). xs ++ replicate n z) (sym left)
+
+  -- the filled slots are the list
+  pub slots_filled : take (length xs) (slotted z xs) ≡ xs
+  unfolding slotted
+  slots_filled = take-append_seam xs (replicate (slots - length xs) z)
 
   -- any slot is the list's, with zero past its end
   pub slots_read : (k : ℕ) → get_or (slotted z xs) k z ≡ get_or xs k z

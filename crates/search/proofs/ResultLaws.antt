@@ -23,6 +23,10 @@ pub each_more : (rd : CostOf) (best : MotionSearchResult) (i : ℕ) (vs : ℕ �
 unfolding try_each
 each_more rd best i vs = ap (λ (n : ℕ). try_each rd best n vs) (add-one i)
 
+pub each_four : (rd : CostOf) (best : MotionSearchResult) (vs : ℕ → MotionVector) → try_each rd best 4 vs ≡ try_one rd (try_one rd (try_one rd (try_one rd best (vs 0)) (vs 1)) (vs 2)) (vs 3)
+unfolding try_each
+each_four rd best vs = refl
+
 -- the largest cost, which no vector in range has
 abbrev pub most_cost : ℕ
 most_cost = 2 ^ 64 - 1

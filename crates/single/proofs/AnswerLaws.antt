@@ -11,7 +11,7 @@ use Rattle.single.specs.declared.found.Found.{Found}
 use Rattle.single.specs.Found.{refused, answer}
 use Rattle.single.specs.Predicting.{refused_predictors, predictors_with}
 
-refuses : (n : ℕ) (f : Found) → (n ≡ 0 → ⊥) → answer n f ≡ refused n
+pub refuses : (n : ℕ) (f : Found) → (n ≡ 0 → ⊥) → answer n f ≡ refused n
 unfolding answer
 refuses n f h = rw (ne_eqb n 0 h)
 

@@ -16,7 +16,7 @@ pub puts_as : {a b : List ℕ} {old new : Writer} → a ≡ b → Puts a old new
 puts_as {old = old} {new} e p = subst (λ (text : List ℕ). Puts text old new) e p
 
 -- a text put behind another is put with it
-behind : {xs ys : List ℕ} {i j k : ℕ} {l m n : List ℕ} → Put xs i l j m → Put ys j m k n → Put (xs ++ ys) i l k n
+pub behind : {xs ys : List ℕ} {i j k : ℕ} {l m n : List ℕ} → Put xs i l j m → Put ys j m k n → Put (xs ++ ys) i l k n
 behind {xs} {ys} {i} {l = l} p q =
     record {
       next = rw length-append (omega arith);
