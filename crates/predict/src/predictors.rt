@@ -153,7 +153,7 @@ pub fn get_subset_predictors(
     };
     let b = scale.subset_of(spot.cells_b(level).as_slice(), grid);
     let c = match prev {
-        Some(prev) => scale.subset_of(spot.cells_c().as_slice(), &prev),
+        Some(prev) => scale.subset_of(spot.cells_c(true).as_slice(), &prev),
         None => Subset {
             count: 0,
             mvs: [ZERO; 5],

@@ -72,11 +72,14 @@ impl Spot {
         self.neighbours(right, bottom)
     }
 
-    // The cells of C, which a previous grid gives.
+    // The cells of C, if a previous grid is present. A bool, as the definition has it.
     #[tactic(auto, unfolding(crate::specs::Sampled::cells_c))]
-    pub fn cells_c(self) -> ArrayVec<usize, 5>
-        ensures { (level : ℕ) → self.mv_size ≡ (level_of level).mv_size → result.items ≡ cells_c self.width self.height level self.bx self.by true }
+    pub fn cells_c(self, present: bool) -> ArrayVec<usize, 5>
+        ensures { (level : ℕ) → self.mv_size ≡ (level_of level).mv_size → result.items ≡ cells_c self.width self.height level self.bx self.by present }
     {
+        if !present {
+            return ArrayVec::new();
+        }
         let middle = self.centre_cell();
         let mut cells = self.neighbours(true, true);
         cells.push(middle);
