@@ -136,11 +136,14 @@ pub fn grids_hold(
     grid_ok(width, height, room) && (present == 0 || grid_ok(width, height, prev_room))
 }
 
-// The same of a previous grid as it is lent. A bool, as the definition is.
-#[tactic(auto, unfolding(crate::specs::Refusals::grids_fit))]
+// The same of a previous grid as it is lent: 1 and its room, or 0 where it is absent. A bool, as the definition is.
+#[tactic(auto, unfolding(crate::specs::Refusals::grids_fit, crate::specs::Refusals::grids_hold))]
 pub fn grids_fit(width: usize, height: usize, prev: Option<GridRef<'_>>, room: usize) -> bool
     requires { (width ≤ largest_side) × (height ≤ largest_side) }
     ensures { result ≡ grids_fit width height (previous_lent prev.entry) room }
 {
-    grid_ok(width, height, room) && prev.is_none_or(|grid| grid_ok(width, height, grid.room()))
+    match prev {
+        Some(grid) => grids_hold(width, height, 1, grid.room(), room),
+        None => grids_hold(width, height, 0, 0, room),
+    }
 }
