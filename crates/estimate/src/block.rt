@@ -4,8 +4,8 @@ ghost use Rattle.motion.specs.Vector.{FitsV, shl_v};
 ghost use Rattle.motion.specs.Level.{level_of};
 ghost use Rattle.motion.specs.Frame.{Side, Starts, Sized};
 ghost use Rattle.grid.specs.Grid.{Held, cells, cell_at};
-ghost use Rattle.grid.specs.Previous.{HeldIf};
-ghost use Rattle.grid.specs.Lent.{lent, previous_lent};
+ghost use Rattle.grid.specs.Previous.{Previous, HeldIf};
+ghost use Rattle.grid.specs.Lent.{lent, previous_lent, SamePrevious};
 ghost use Rattle.sad.specs.Asked.{Lies};
 ghost use Rattle.points.specs.Window.{window_ok};
 ghost use Rattle.estimate.specs.Asked.{Leveled, Samples};
@@ -65,7 +65,7 @@ fn stats_of(ssdec: u32, w: usize, h: usize, best: MotionSearchResult) -> MEStats
     }
 }
 
-// The search of a block from its predictors.
+// The search of a block from its predictors. Whatever stands for an absent previous grid, it gives the same: clause `same_previous`.
 pub fn estimate_motion(
     inputs: &LevelInputs<'_>,
     bx: usize,
@@ -76,7 +76,8 @@ pub fn estimate_motion(
     requires starts { Starts inputs.now.width (level_of inputs.now.level).mv_size bx × Starts inputs.now.height (level_of inputs.now.level).mv_size by }
     requires held_if { HeldIf inputs.now.width inputs.now.height (previous_lent prev) }
     requires held { Held inputs.now.width inputs.now.height (lent grid.now) }
-    ensures { result ≡ estimate_motion (inputs_lent inputs.now) (previous_lent prev.entry) bx by (lent grid.now) }
+    ensures estimated { result ≡ estimate_motion (inputs_lent inputs.now) (previous_lent prev.entry) bx by (lent grid.now) }
+    ensures same_previous { (p : Previous) → SamePrevious (previous_lent prev.entry) p → result ≡ estimate_motion (inputs_lent inputs.now) p bx by (lent grid.now) }
 {
     let row = level_of(inputs.level);
     let planes = planes_at(inputs, row.mv_size, bx, by);

@@ -2,8 +2,8 @@ ghost use Rattle.std.specs.Prelude.{◌≡◌, true, ℕ, ◌<◌, length, get_o
 ghost use Rattle.motion.specs.Frame.{Side};
 ghost use Rattle.motion.specs.Superblock.{superblocks};
 ghost use Rattle.grid.specs.Grid.{Held};
-ghost use Rattle.grid.specs.Previous.{HeldIf};
-ghost use Rattle.grid.specs.Lent.{lent_mut, previous_lent, SameBuffers};
+ghost use Rattle.grid.specs.Previous.{Previous, HeldIf};
+ghost use Rattle.grid.specs.Lent.{lent_mut, previous_lent, SamePrevious, SameBuffers};
 ghost use Rattle.refusal.specs.Refusals.{level_ok};
 ghost use Rattle.estimate.specs.Inputs.{plane_at};
 ghost use Rattle.estimate.specs.Lent.{inputs_lent, planes_lent};
@@ -57,6 +57,7 @@ fn inputs_at<'a>(
 }
 
 // Levels 4, 3 and 2, each in list order.
+// Whatever stands for an absent previous grid, the grid comes out the same: clause `same_previous`.
 // Width and height stay two numbers, as the definitions and C have them.
 pub fn frame_run(
     width: usize,
@@ -75,6 +76,7 @@ pub fn frame_run(
     requires held { Held width height (lent_mut grid.old) }
     requires in_frame { (k : ℕ) → k < length list.now → get_or list.now k 0 < superblocks width height }
     ensures run { lent_mut grid.new ≡ frame_run width height (planes_lent cur.now) (planes_lent reference.now) weight (previous_lent prev.entry) list.now (lent_mut grid.old) }
+    ensures same_previous { (p : Previous) → SamePrevious (previous_lent prev.entry) p → lent_mut grid.new ≡ frame_run width height (planes_lent cur.now) (planes_lent reference.now) weight p list.now (lent_mut grid.old) }
     ensures same { SameBuffers grid.old grid.new }
 {
     let quarter = inputs_at(width, height, weight, cur, reference, 4);

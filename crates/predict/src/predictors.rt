@@ -4,8 +4,8 @@ ghost use Rattle.motion.specs.Vector.{zero_v};
 ghost use Rattle.motion.specs.Level.{level_of};
 ghost use Rattle.motion.specs.Frame.{Placed};
 ghost use Rattle.grid.specs.Grid.{Held};
-ghost use Rattle.grid.specs.Previous.{HeldIf};
-ghost use Rattle.grid.specs.Lent.{lent, previous_lent};
+ghost use Rattle.grid.specs.Previous.{Previous, HeldIf};
+ghost use Rattle.grid.specs.Lent.{lent, previous_lent, SamePrevious};
 ghost use Rattle.sampled.specs.Slots.{slots};
 ghost use Rattle.predict.specs.Predictors.{predictor, predictors_at, sads_at, least_of, minimum_sad, stop_threshold, subset_of, subsets_of};
 
@@ -122,6 +122,7 @@ fn stop_threshold(min_sad: u32, area: u32) -> u32
     (u64::from(min_sad) * 6 / 5) as u32 + area
 }
 
+// Whatever stands for an absent previous grid, the predictors are the same: clause `same_previous`.
 // Width and height stay two numbers, as the definitions and C have them.
 pub fn get_subset_predictors(
     width: usize,
@@ -135,7 +136,8 @@ pub fn get_subset_predictors(
     requires placed { Placed width height (level_of level) (level_of level).mv_size bx by }
     requires prev_held { HeldIf width height (previous_lent prev) }
     requires held { Held width height (lent grid.now) }
-    ensures { result ≡ subsets_of width height level bx by (previous_lent prev.entry).present (previous_lent prev.entry).grid (lent grid.now) }
+    ensures subsets { result ≡ subsets_of width height level bx by (previous_lent prev.entry).present (previous_lent prev.entry).grid (lent grid.now) }
+    ensures same_previous { (p : Previous) → SamePrevious (previous_lent prev.entry) p → result ≡ subsets_of width height level bx by p.present p.grid (lent grid.now) }
 {
     let row = level_of(level);
     let mv_size = row.mv_size;

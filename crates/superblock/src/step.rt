@@ -1,8 +1,8 @@
 ghost use Rattle.std.specs.Prelude.{◌≡◌, true, ◌≤◌, ◌<◌, cond, eqb, length};
 ghost use Rattle.motion.specs.Superblock.{superblocks};
 ghost use Rattle.grid.specs.Grid.{Held, cells};
-ghost use Rattle.grid.specs.Previous.{HeldIf};
-ghost use Rattle.grid.specs.Lent.{lent, lent_mut, previous_lent, SameBuffers};
+ghost use Rattle.grid.specs.Previous.{Previous, HeldIf};
+ghost use Rattle.grid.specs.Lent.{lent, lent_mut, previous_lent, SamePrevious, SameBuffers};
 ghost use Rattle.refusal.specs.Kinds.{code_of};
 ghost use Rattle.refusal.specs.Refusals.{refuse};
 ghost use Rattle.estimate.specs.Lent.{inputs_lent};
@@ -97,6 +97,7 @@ fn estimate_sb_motion(
 }
 
 // One superblock at one level. Where a window is empty the grid stays as it stood.
+// Whatever stands for an absent previous grid, the grid comes out the same: clause `same_previous`.
 // Both grids are held by clauses: one is written, so that no ghost field could speak of what it holds.
 pub fn superblock_step(
     inputs: &LevelInputs<'_>,
@@ -109,6 +110,7 @@ pub fn superblock_step(
     requires held { Held inputs.now.width inputs.now.height (lent_mut grid.old) }
     ensures refusal { code_of result ≡ refuse 8 (windows_ok inputs.now.width inputs.now.height inputs.now.level superblock grid.old.rows.now grid.old.cols.now) }
     ensures stepped { lent_mut grid.new ≡ step (inputs_lent inputs.now) (previous_lent prev.entry) superblock (lent_mut grid.old) }
+    ensures same_previous { (p : Previous) → SamePrevious (previous_lent prev.entry) p → lent_mut grid.new ≡ step (inputs_lent inputs.now) p superblock (lent_mut grid.old) }
     ensures same { SameBuffers grid.old grid.new }
 {
     if !windows_ok(inputs, superblock, &grid.read()) {

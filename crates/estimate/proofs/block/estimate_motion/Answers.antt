@@ -18,6 +18,7 @@ use Rattle.estimate.specs.Lent.{inputs_lent}
 use Rattle.estimate.specs.Asked.{Listed}
 use Rattle.estimate.specs.Block.{block_in, cost_in, full_pixel_me, stats_of, estimate_motion}
 use Rattle.estimate.proofs.BlockFacts.{ready, own-sized, listed, block_zero, block_measured, block_saves, full_pixel_me-settled}
+use Rattle.estimate.proofs.PreviousLaws.{estimate_motion-same_previous}
 use Rattle.estimate.proofs.block.estimate_motion.Goals.{Start, After-planes_at-planes, After-full_pixel_me-best}
 use Rattle.estimate.proofs.block.estimate_motion.Goals as goal
 
@@ -52,7 +53,7 @@ best_is : (c : After-full_pixel_me-best) → c.full_pixel_me-best.result ≡ bes
 best_is c =
     let planes = c.planes_at-planes.ensures.planes in
     c.full_pixel_me-best.ensures
-    ∙ (λ i. full_pixel_me (rd_at (block_is (goal.at.After-full_pixel_me-best c).After-planes_at-planes i) (planes.0 i) (planes.1 i)) c.args.inputs.now.level (c.get_subset_predictors-p.ensures i))
+    ∙ (λ i. full_pixel_me (rd_at (block_is (goal.at.After-full_pixel_me-best c).After-planes_at-planes i) (planes.0 i) (planes.1 i)) c.args.inputs.now.level (c.get_subset_predictors-p.ensures.subsets i))
 
 pub planes_at-planes-requires-clause-sized : goal.planes_at-planes-requires-clause-sized
 planes_at-planes-requires-clause-sized c = rw c.level_of-row.ensures (sized (goal.at.planes_at-planes-requires-clause-sized c).Start)
@@ -69,7 +70,7 @@ invariant_of-full_pixel_me c =
 
 pub full_pixel_me-best-requires : goal.full_pixel_me-best-requires
 full_pixel_me-best-requires c =
-    subst Listed (sym c.get_subset_predictors-p.ensures) (listed (sound (goal.at.full_pixel_me-best-requires c).Start))
+    subst Listed (sym c.get_subset_predictors-p.ensures.subsets) (listed (sound (goal.at.full_pixel_me-best-requires c).Start))
 
 pub stats_of-requires : goal.stats_of-requires
 unfolding block_in
@@ -89,5 +90,10 @@ stats_of-requires c =
 pub returns : goal.returns
 unfolding estimate_motion cost_in
 returns c =
+    let i = inputs_lent c.args.inputs.now in
+    let p = previous_lent c.args.prev in
+    let g = lent c.args.grid.now in
+    let saved : c.stats_of.result ≡ estimate_motion i p c.args.bx c.args.by g =
     c.stats_of.ensures
-    ∙ (λ i. stats_of (c.level_of-row.ensures i).ssdec (block_is (goal.at.returns c).After-planes_at-planes i).w (block_is (goal.at.returns c).After-planes_at-planes i).h (best_is (goal.at.returns c).After-full_pixel_me-best i))
+    ∙ (λ j. stats_of (c.level_of-row.ensures j).ssdec (block_is (goal.at.returns c).After-planes_at-planes j).w (block_is (goal.at.returns c).After-planes_at-planes j).h (best_is (goal.at.returns c).After-full_pixel_me-best j)) in
+    record { estimated = saved; same_previous = λ q same. saved ∙ estimate_motion-same_previous i c.args.bx c.args.by g same }

@@ -26,6 +26,7 @@ use Rattle.predict.specs.Predictors.{predictors_at, sads_at, least_of, minimum_s
 use Rattle.predict.proofs.AreaLaws.{level-small, block_area, minimum_small}
 use Rattle.predict.proofs.LeastLaws.{least-both}
 use Rattle.predict.proofs.PredictorLaws.{predictors-count}
+use Rattle.predict.proofs.SubsetLaws.{subsets-same_previous}
 use Rattle.predict.proofs.predictors.get_subset_predictors.Goals.{After-block_of-block, After-centre_cell, After-subset_of-b, in-Some, in-None}
 use Rattle.predict.proofs.predictors.get_subset_predictors.Goals as goal
 
@@ -186,5 +187,7 @@ returns c =
     ] in
     let middle : option_to_list c.then_some-centre.result ≡ cells_centre a.width a.height a.level a.bx a.by =
     ap option_to_list c.then_some-centre.ensures ∙ taken-is _ _ ∙ ap (taken (not (eqb a.level 4))) (middle-is (goal.at.returns c).After-centre_cell) in
+    let made =
     together a.width a.height a.level a.bx a.by p.present p.grid g c.subset_of-b.result c.match-prev.c c.centre_of-m.result c.minimum_sad-min_sad.result c.stop_threshold.result
-    x y (cc) (cc) (cc) (cc)
+    x y (cc) (cc) (cc) (cc) in
+    record { subsets = made; same_previous = λ q same. made ∙ subsets-same_previous a.width a.height a.level a.bx a.by p q g same }

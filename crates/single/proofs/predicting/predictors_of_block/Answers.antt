@@ -10,7 +10,7 @@ use Rattle.refusal.specs.Refusals.{refuse, size_of, ◌then◌, grids_hold}
 use Rattle.refusal.proofs.KindsLaws.{number-some, err-then}
 use Rattle.refusal.proofs.RefusalLaws.{refuse-is, then_later, accepted}
 use Rattle.refusal.proofs.GridsLaws.{Fitting, fitting, fit-is}
-use Rattle.predict.proofs.SubsetLaws.{Sound, subsets_sound, subsets-same_previous}
+use Rattle.predict.proofs.SubsetLaws.{Sound, subsets_sound}
 use Rattle.single.specs.Predicting.{predictors_from, predictors_with, predictors_answer, predictors_refusal}
 use Rattle.single.proofs.AnswerLaws.{predictors-refused}
 use Rattle.single.proofs.predicting.predictors_of_block.Goals.{In_ok-test, Else-not-grids_fit}
@@ -60,13 +60,12 @@ unfolding predictors_from predictors_answer predictors_refusal previous refuse �
 returns-clause-answer c present before same =
     let a = c.args in
     let g = lent a.grid.now in
-    let p = previous_lent a.prev in
-    let is = fit-is a.width a.height present (room g) before p same in
+    let is = fit-is a.width a.height present (room g) before (previous_lent a.prev) same in
     let held : grids_hold a.width a.height present (room before) (room g) ≡ true = cc in
     rw (← c.in_ok-test.ensures, held)
-    (ap (predictors_with 0) (c.get_subset_predictors.ensures ∙ subsets-same_previous a.width a.height a.level a.bx a.by p (previous present before) g same))
+    (ap (predictors_with 0) (c.get_subset_predictors.ensures.same_previous (previous present before) same))
 
 pub returns-clause-few : goal.returns-clause-few
 returns-clause-few c =
-    let sound : Sound c.get_subset_predictors.result = rw c.get_subset_predictors.ensures (subsets_sound _ _ _ _ _ _ _ _) in
+    let sound : Sound c.get_subset_predictors.result = rw c.get_subset_predictors.ensures.subsets (subsets_sound _ _ _ _ _ _ _ _) in
     (sound.b-most, sound.c_most)

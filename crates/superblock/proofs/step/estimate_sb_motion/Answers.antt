@@ -95,7 +95,7 @@ loop-k-preserved c =
     let size = ap (λ (l : Level). l.mv_size) c.level_of.ensures in
     let column = column_is (goal.at.loop-k-preserved c).After-x-bx in
     let row = row_is (goal.at.loop-k-preserved c).After-y-by in
-    let stats = c.estimate_motion-stats.ensures ∙ ap (λ (g : Grid). estimate_motion (inputs_lent i) (previous_lent c.args.prev) c.x-bx.result c.y-by.result g) c.read.ensures in
+    let stats = c.estimate_motion-stats.ensures.estimated ∙ ap (λ (g : Grid). estimate_motion (inputs_lent i) (previous_lent c.args.prev) c.x-bx.result c.y-by.result g) c.read.ensures in
     record {
       estimated = worked-turn (result (goal.at.loop-k-preserved c).At-loop-k) i.width i.height (level_of i.level).mv_size c.args.superblock c.loop-k.k (lent_mut c.args.grid.now) size column row c.loop-k.invariant.estimated stats c.save_me_stats.ensures.saved;
       same = same-more c.loop-k.invariant.same c.save_me_stats.ensures.same;
