@@ -1,5 +1,5 @@
 -- `frame::run::level_run` meets its contract.
-use Rattle.std.proofs.Common.{sym, ap, ◌∙◌, get_or}
+use Rattle.std.proofs.Common.{sym, ap, ◌∙◌, get_or, arith}
 use Rattle.std.proofs.lemmas.List.{take_all}
 use mathlib.Core.List.{List}
 use Prim.Native.Nat.{ℕ}
@@ -21,7 +21,7 @@ loop-superblock-init c =
 pub superblock_step-requires : goal.superblock_step-requires
 superblock_step-requires c =
     record {
-      inside = c.requires.in_frame c.loop-superblock.superblock-index c.loop-superblock-test.true;
+      inside = omega (arith, c.requires.in_frame c.loop-superblock.superblock-index c.loop-superblock-test.true);
       held_if = c.requires.held_if;
       held = held-same c.loop-superblock.invariant.same c.requires.held;
     }

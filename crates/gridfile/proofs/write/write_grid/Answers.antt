@@ -45,7 +45,7 @@ pub put_header-requires : goal.put_header-requires
 unfolding file_bytes
 put_header-requires c =
     let extent = c.in_ok-extent.extent in
-    (extent.wide.0, extent.wide.1, extent.high.0, extent.high.1, omega (arith, sound (goal.at.put_header-requires c).In_ok-extent))
+    omega (arith, extent.wide, extent.high, sound (goal.at.put_header-requires c).In_ok-extent)
 
 pub put_cells-requires : goal.put_cells-requires
 unfolding cells room
