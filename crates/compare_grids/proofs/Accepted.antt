@@ -1,5 +1,5 @@
 -- A file that a comparison was not refused for was accepted.
-use Rattle.std.proofs.Common.{◌≡◌, ℕ, Result, Ok, Err, refl, ap, sym, ◌∙◌}
+use Rattle.std.proofs.Common.{◌≡◌, ℕ, Result, Ok, Err, refl}
 use Rattle.std.specs.Result.{IsOk}
 use Rattle.refusal.specs.declared.kinds.Refusal.{Refusal}
 use Rattle.refusal.proofs.RefusalLaws.{none_of}
@@ -13,6 +13,6 @@ unrefused : (e : Result Extent Refusal) → (shape_for e).code ≡ 0 → IsOk e
 unrefused (Ok extent) z = refl
 unrefused (Err refusal) z = absurd (numbered refusal z)
 
-pub accepted : (e : Result Extent Refusal) (first second : Shape) (n m : ℕ) → first ≡ shape_for e → compare_refusal first n second m ≡ 0 → IsOk e
+pub accepted : (e : Result Extent Refusal) (second : Shape) (n m : ℕ) → compare_refusal (shape_for e) n second m ≡ 0 → IsOk e
 unfolding compare_refusal
-accepted e first second n m is z = unrefused e (sym (ap (λ (shape : Shape). shape.code) is) ∙ (none_of first.code _ z).0)
+accepted e second n m z = unrefused e (none_of (shape_for e).code _ z).0

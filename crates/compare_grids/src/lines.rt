@@ -1,12 +1,15 @@
 ghost use Rattle.std.specs.Prelude.{◌≡◌, ◌*◌, ◌≤◌, length, IsSome};
 ghost use Rattle.records.specs.Forms.{cell_bytes};
 ghost use Rattle.listing.specs.Parts.{line_room};
-ghost use Rattle.report.specs.Steps.{Open, Passed};
+ghost use Rattle.gridfile.specs.Reading.{shape_for};
+ghost use Rattle.compare.specs.Answer.{compare_refusal};
+ghost use Rattle.report.specs.Steps.{Open, Passed, report_start};
 ghost use Rattle.passes.specs.Again.{block_cells};
 
 use gridfile::extent::Extent;
 use listing::lines::LINE;
 use passes::again::{BLOCK, Reopened};
+use passes::files::Checked;
 use passes::output::write;
 use records::limits::CELL_BYTES;
 use report::steps::Report;
@@ -42,9 +45,10 @@ impl Pass {
     }
 
     // The lines of all cells that differ, block by block.
-    fn pass_cells(&mut self, rt: &HostRuntime, cells: usize) -> Option<()>
-        requires { Open self.old.report cells × (self.old.report.next ≡ 0) }
+    fn pass_cells(&mut self, rt: &HostRuntime, extent: Extent) -> Option<()>
+        requires { self.old.report ≡ report_start extent.columns }
     {
+        let cells = extent.cells();
         let mut a = [0u8; CELL_BYTES * BLOCK];
         let mut b = [0u8; CELL_BYTES * BLOCK];
         let mut out = [0u8; LINE * BLOCK];
@@ -64,9 +68,13 @@ fn write_last(rt: &HostRuntime, report: Report) -> Option<()> {
     write(rt, w.text())
 }
 
-// The lines of two files of one shape, whose sums were these when they were checked, and the last; none, with words, where one
-// can't be read or changed, or a line can't be written.
-pub(crate) fn compare(rt: &HostRuntime, extent: Extent, first: u64, second: u64) -> Option<()> {
+// The lines of two files that were checked and are refused for nothing, neither alone nor beside each other, and the last; none,
+// with words, where one can't be read or changed, or a line can't be written.
+#[tactic(auto, using(crate::proofs::Accepted::accepted))]
+pub(crate) fn compare(rt: &HostRuntime, first: Checked, second: Checked) -> Option<()>
+    requires { compare_refusal (shape_for first.extent) 65536 (shape_for second.extent) 65536 ≡ 0 }
+{
+    let extent = first.extent.unwrap();
     let mut pass = Pass {
         first: Reopened::open(rt, 1)?,
         second: Reopened::open(rt, 2)?,
@@ -74,8 +82,8 @@ pub(crate) fn compare(rt: &HostRuntime, extent: Extent, first: u64, second: u64)
     };
     pass.first.pass_header();
     pass.second.pass_header();
-    pass.pass_cells(rt, extent.cells())?;
-    pass.first.same_at_end(rt, first)?;
-    pass.second.same_at_end(rt, second)?;
+    pass.pass_cells(rt, extent)?;
+    pass.first.same_at_end(rt, first.sum)?;
+    pass.second.same_at_end(rt, second.sum)?;
     write_last(rt, pass.report)
 }

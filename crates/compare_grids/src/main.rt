@@ -22,7 +22,6 @@ use passes::words::say;
 use records::limits::MOST_FILE_CELLS;
 use words::say_refused;
 
-#[tactic(auto, using(crate::proofs::Accepted::accepted))]
 fn main(rt: HostRuntime) {
     if argument_count(&rt) != 3 {
         say(
@@ -46,6 +45,5 @@ fn main(rt: HostRuntime) {
         write_refused(&rt, code);
         return say_refused(&rt, first, second);
     }
-    // With no refusal the first file has none.
-    let _ = compare(&rt, first.extent.unwrap(), first.sum, second.sum);
+    let _ = compare(&rt, first, second);
 }

@@ -1,3 +1,6 @@
+ghost use Rattle.std.specs.Prelude.{◌≡◌, IfOk};
+ghost use Rattle.reader.specs.Calls.{end_reader};
+
 use crate::sums::summed;
 use crate::words::or_say;
 use given::arguments::{NAME, argument};
@@ -26,7 +29,9 @@ pub struct Checked {
 
 // What a file that ends here holds. The reader's code is C's number, so it is read as one here. No header says 0 rows: a reader
 // that holds 0 has read none.
-fn extent_at_end(reader: Reader) -> Result<Extent, Refusal> {
+fn extent_at_end(reader: Reader) -> Result<Extent, Refusal>
+    ensures { IfOk result (λ extent. ((end_reader reader).code ≡ 0) × (extent.columns ≡ (end_reader reader).columns) × (extent.rows ≡ (end_reader reader).rows)) }
+{
     let last = lockdapple_reader_end(reader);
     match last.code {
         0 if last.rows > 0 => Ok(Extent {

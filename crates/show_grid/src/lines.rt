@@ -1,7 +1,7 @@
 ghost use Rattle.std.specs.Prelude.{◌≡◌, ◌*◌, ◌-◌, ◌≤◌, ◌<◌, min, length, IsSome};
 ghost use Rattle.records.specs.Forms.{cell_bytes};
 ghost use Rattle.listing.specs.Parts.{line_room};
-ghost use Rattle.listing.specs.Steps.{Open, later};
+ghost use Rattle.listing.specs.Steps.{Open, later, listing_start};
 ghost use Rattle.passes.specs.Again.{block_cells};
 
 use gridfile::extent::Extent;
@@ -45,9 +45,10 @@ impl Pass {
     }
 
     // The lines of all cells, block by block.
-    fn show_cells(&mut self, rt: &HostRuntime, cells: usize, checked: u64) -> Option<()>
-        requires { Open self.old.listing cells × (self.old.listing.next ≡ 0) }
+    fn show_cells(&mut self, rt: &HostRuntime, extent: Extent, checked: u64) -> Option<()>
+        requires { self.old.listing ≡ listing_start extent.columns }
     {
+        let cells = extent.cells();
         let mut block = [0u8; CELL_BYTES * BLOCK];
         let mut out = [0u8; LINE * BLOCK];
         // By blocks: the listing has the place.
@@ -71,5 +72,5 @@ pub(crate) fn show(rt: &HostRuntime, extent: Extent, checked: u64) -> Option<()>
     write_heading(rt, extent)?;
     file.pass_header();
     let listing = Listing::new(extent.columns);
-    Pass { file, listing }.show_cells(rt, extent.cells(), checked)
+    Pass { file, listing }.show_cells(rt, extent, checked)
 }

@@ -34,7 +34,6 @@ invariant_of-result c =
     let is = c.lockdapple_reader_end-last.ensures in
     let ends = at-end c.args.reader (sym (ap (λ (r : Reader). r.code) is) ∙ c.in-0.is) in
     let columns = ap (λ (r : Reader). r.columns) is in
-    let rows = ap (λ (r : Reader). r.rows) is in record {
-      wide = (omega arith, omega arith);
-      high = (c.if-last-gt0.true, omega arith);
-    }
+    let rows = ap (λ (r : Reader). r.rows) is in
+    let some = c.if-last-gt0.true in
+    record { wide = (omega arith, omega arith); high = (omega arith, omega arith) }
