@@ -1,6 +1,6 @@
 -- Laws of the places that differ, as a loop comes to them: none is left, this one differs, or the next is looked at.
 -- Assumes nothing.
-use Rattle.std.specs.Prelude.{Some, count_by, filter, unwrap_or}
+use Rattle.std.specs.Prelude.{Some, None, count_by, filter, unwrap_or}
 use Rattle.std.specs.List.{range_with_len, find}
 use Rattle.std.proofs.lemmas.List.Sums.{length-filter}
 use mathlib.Core.Path.{◌≡◌, refl, sym, ap, ◌∙◌}
@@ -28,6 +28,23 @@ found_first test (x ∷ xs) d =
       | true ↦ refl
       | false ↦ found_first test xs d
     ]
+
+module _ (test : ℕ → Bool) (i to : ℕ) where
+  find_more : i < to → find test (range_with_len i (to - i)) ≡ cond (test i) (Some i) (find test (range_with_len (i + 1) (to - (i + 1))))
+  find_more h =
+      let places : to - i ≡ suc (to - (i + 1)) = omega arith in
+      rw (places, add-one)
+
+  pub find_none : to ≤ i → find test (range_with_len i (to - i)) ≡ None
+  find_none h =
+      let no-places : to - i ≡ 0 = omega arith in
+      ap (λ (n : ℕ). find test (range_with_len i n)) no-places
+
+  pub find_here : i < to → test i ≡ true → find test (range_with_len i (to - i)) ≡ Some i
+  find_here h e = find_more h ∙ ap (λ (t : Bool). cond t (Some i) (find test (range_with_len (i + 1) (to - (i + 1))))) e
+
+  pub find_past : i < to → test i ≡ false → find test (range_with_len i (to - i)) ≡ find test (range_with_len (i + 1) (to - (i + 1)))
+  find_past h e = find_more h ∙ ap (λ (t : Bool). cond t (Some i) (find test (range_with_len (i + 1) (to - (i + 1))))) e
 
 module _ (f g : Grid) (from to : ℕ) where
   pub count_differs : count_by (differs_at f g) (range_with_len from (to - from)) ≡ length (differing f g from to)

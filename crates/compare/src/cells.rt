@@ -45,7 +45,7 @@ pub(crate) fn count_differing(
     count
 }
 
-// The first of them.
+// The first of them. As `find(..)` it takes more than 1.5 times the time.
 pub(crate) fn next_differing(
     first: &GridRef<'_>,
     second: &GridRef<'_>,
@@ -55,5 +55,10 @@ pub(crate) fn next_differing(
     requires { (to ≤ room (lent first.now)) × (to ≤ room (lent second.now)) }
     ensures { result ≡ find (λ i. differs_at (lent first.now) (lent second.now) i) (range_with_len from (to - from)) }
 {
-    (from..to).find(|i| differs_at(first, second, *i))
+    for i in from..to {
+        if differs_at(first, second, i) {
+            return Some(i);
+        }
+    }
+    None
 }
